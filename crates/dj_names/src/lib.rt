@@ -1,0 +1,15 @@
+//! Names, types and descriptors of the Java virtual machine, as plain data that is copied to an equal value.
+//! It stands on the kit's lists and boxes that contracts see as what they hold, which it hands on.
+//! The layers above use the types, and `copy` of each, which answers an equal value.
+#![tactic(auto)]
+
+mod class_name;
+mod descriptor;
+mod types;
+mod units;
+
+pub use class_name::ClassName;
+pub use descriptor::Descriptor;
+pub use sqlite_items::{Boxed, Items};
+pub use types::JType;
+pub use units::Units;

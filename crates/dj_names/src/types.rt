@@ -1,0 +1,45 @@
+//! The types of fields, parameters and results (JVMS 4.3.2).
+
+ghost use Rattle.std.specs.Prelude.{◌≡◌, IfOk};
+
+use crate::class_name::ClassName;
+use sqlite_items::Boxed;
+use std::alloc::{AllocError, Global};
+
+/// A type of the machine: primitive, a class or interface, or an array of a type.
+#[derive(Debug, Drop)]
+pub enum JType {
+    Boolean,
+    Byte,
+    Char,
+    Short,
+    Int,
+    Long,
+    Float,
+    Double,
+    Class(ClassName),
+    Array(Boxed<JType>),
+}
+
+impl JType {
+    /// An equal type.
+    pub fn copy(&self, alloc: Global) -> Result<JType, AllocError>
+        ensures equal { IfOk result (λ copy. copy ≡ self.now) }
+    {
+        match self {
+            JType::Boolean => Ok(JType::Boolean),
+            JType::Byte => Ok(JType::Byte),
+            JType::Char => Ok(JType::Char),
+            JType::Short => Ok(JType::Short),
+            JType::Int => Ok(JType::Int),
+            JType::Long => Ok(JType::Long),
+            JType::Float => Ok(JType::Float),
+            JType::Double => Ok(JType::Double),
+            JType::Class(name) => Ok(JType::Class(name.copy(alloc)?)),
+            JType::Array(element) => {
+                let element = element.get().copy(alloc)?;
+                Ok(JType::Array(Boxed::new(alloc, element)?))
+            }
+        }
+    }
+}
