@@ -1,2 +1,4 @@
 -- What the public contracts rest on, in reading order.
 pub mod Types
+pub mod Headers
+pub mod Assignable

@@ -4,6 +4,8 @@ use Rattle.dj_names.specs.declared.types.JType as code
 use Rattle.dj_names.specs.declared.types.JType.TheOpen as layer
 use Rattle.dj_names.specs.declared.descriptor.Descriptor as code_descriptor
 use Rattle.dj_names.specs.declared.descriptor.Descriptor.TheVariants as variants
+use Rattle.dj_names.specs.declared.static_type.StaticType as code_static
+use Rattle.dj_names.specs.declared.static_type.StaticType.TheVariants as static_variants
 
 -- a primitive type, a class or interface by the units of its name, or an array of a type
 pub data JType : Type 0 where
@@ -48,3 +50,13 @@ pub data Descriptor : Type 0 where
 abbrev pub view_descriptor : code_descriptor.Descriptor → Descriptor
 view_descriptor (variants.Field kind) = Field (view_type kind)
 view_descriptor (variants.Method parameters result) = Method (view_types parameters) (option_map view_type result)
+
+-- the type of `null`, or a type of the machine
+pub data StaticType : Type 0 where
+  Null : StaticType
+  Of : JType → StaticType
+
+-- a type of an expression of the code, seen as plain data
+abbrev pub view_static : code_static.StaticType → StaticType
+view_static static_variants.Null = Null
+view_static (static_variants.Of kind) = Of (view_type kind)

@@ -3,6 +3,7 @@
 ghost use Rattle.std.specs.Prelude.{◌≡◌, IfOk};
 
 use crate::units::Units;
+use sqlite_items::Items;
 use std::alloc::{AllocError, Global};
 use std::marker::Model;
 
@@ -42,4 +43,15 @@ impl ClassName {
             units: self.units.copy(alloc)?,
         })
     }
+}
+
+/// Names equal to these, in order.
+pub fn copy_names(alloc: Global, names: &[ClassName]) -> Result<Items<ClassName>, AllocError>
+    ensures equal { IfOk result (λ copy. copy ≡ names.now) }
+{
+    let mut copy = Items::new(alloc);
+    for name in names {
+        copy.push(name.copy(alloc)?)?;
+    }
+    Ok(copy)
 }

@@ -5,11 +5,17 @@
 
 mod class_name;
 mod descriptor;
+mod header;
+mod members;
+mod static_type;
 mod types;
 mod units;
 
-pub use class_name::ClassName;
-pub use descriptor::Descriptor;
+pub use class_name::{ClassName, copy_names};
+pub use descriptor::{Descriptor, copy_result, copy_types};
+pub use header::{Header, Headers};
+pub use members::{ClassMembers, Constant, Field, Member, Members, MethodHead};
 pub use sqlite_items::{Boxed, Items};
+pub use static_type::StaticType;
 pub use types::JType;
 pub use units::Units;
