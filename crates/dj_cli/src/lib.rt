@@ -1,0 +1,6 @@
+//! The main job: class files in, Java source and a report out, with its meaning proved.
+//! It stands on `dj_names` and `dj_syntax`; each module is a layer that will be a crate of its own.
+//! The program uses `run`, whose clauses are the headline.
+#![tactic(auto)]
+
+mod code;
