@@ -1,1 +1,2 @@
+pub mod IdentifiersLemmas
 pub mod HeadersLemmas

@@ -38,8 +38,7 @@ object_name = codes "java/lang/Object"
 abbrev pub above_arrays : List Name
 above_arrays = object_name ∷ codes "java/lang/Cloneable" ∷ codes "java/io/Serializable" ∷ []
 
--- Where a type goes: to itself, to a wider number, to what stands above a class or interface, from
--- an interface to Object, and from an array to what its elements or all arrays go to.
+-- where a type goes without a cast, by the rules of JLS 4.10 and 5.1.2
 pub data IsSubtype (headers : List Header) : JType → JType → Type 0 where
   own_type : {type : JType} → IsSubtype headers type type
   wider_number : {from to : JType} → Contains (wider_types from) to → IsSubtype headers from to

@@ -6,6 +6,7 @@
 mod class_name;
 mod descriptor;
 mod header;
+mod identifiers;
 mod members;
 mod static_type;
 mod types;
@@ -14,6 +15,7 @@ mod units;
 pub use class_name::{ClassName, copy_names};
 pub use descriptor::{Descriptor, copy_result, copy_types};
 pub use header::{Header, Headers};
+pub use identifiers::{is_identifier, spells_identifier};
 pub use members::{ClassMembers, Constant, Field, Member, Members, MethodHead};
 pub use sqlite_items::{Boxed, Items};
 pub use static_type::StaticType;
