@@ -6,3 +6,4 @@ pub mod Outcomes
 pub mod Operators
 pub mod Meaning
 pub mod SameShows
+pub mod Straight
