@@ -2,3 +2,4 @@
 pub mod Trees
 pub mod Items
 pub mod UnitText
+pub mod WellFormed

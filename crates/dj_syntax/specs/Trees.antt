@@ -1,5 +1,5 @@
 -- Trees as plain data, and the view of the code's trees (JLS 14, 15).
-use Rattle.std.specs.Prelude.{ℕ, ℤ, List, [], ◌∷◌, map, Option, Some, None, option_map}
+use Rattle.std.specs.Prelude.{ℕ, ℤ, List, [], ◌∷◌, map, Option, option_map}
 use Rattle.dj_names.specs.Types.{JType, Descriptor, view_type, view_descriptor}
 use Rattle.dj_syntax.specs.declared.operator.Op.{Op}
 use Rattle.dj_syntax.specs.declared.variable.Var.{Var}

@@ -2,9 +2,10 @@
 
 ghost use Rattle.std.specs.Prelude.{◌≡◌, IfOk};
 
-use crate::expression::Exp;
-use crate::statement::Stm;
-use dj_names::{ClassName, Descriptor, Items, JType, Units};
+use crate::expression::{Exp, copy_option};
+use crate::statement::{Stm, copy_list};
+use dj_names::{ClassName, Descriptor, Items, JType, Units, copy_names};
+use std::alloc::{AllocError, Global};
 
 /// A unit: the package that it is in, and its class or interface.
 #[derive(Debug, Drop)]
@@ -55,4 +56,114 @@ pub struct Body {
     pub descriptor: Descriptor,
     pub thrown: Items<ClassName>,
     pub statements: Items<Stm>,
+}
+
+impl Unit {
+    /// An equal unit.
+    pub fn copy(&self, alloc: Global) -> Result<Unit, AllocError>
+        ensures equal { IfOk result (λ copy. copy ≡ self.now) }
+    {
+        Ok(Unit {
+            package: copy_name(alloc, &self.package)?,
+            flags: self.flags,
+            name: self.name.copy(alloc)?,
+            superclass: copy_name(alloc, &self.superclass)?,
+            interfaces: copy_names(alloc, self.interfaces.as_slice())?,
+            fields: copy_fields(alloc, self.fields.as_slice())?,
+            helper: copy_helper(alloc, &self.helper)?,
+            methods: copy_methods(alloc, self.methods.as_slice())?,
+        })
+    }
+}
+
+impl FieldText {
+    /// An equal field.
+    pub fn copy(&self, alloc: Global) -> Result<FieldText, AllocError>
+        ensures equal { IfOk result (λ copy. copy ≡ self.now) }
+    {
+        Ok(FieldText {
+            flags: self.flags,
+            kind: self.kind.copy(alloc)?,
+            name: self.name.copy(alloc)?,
+            value: copy_option(alloc, &self.value)?,
+        })
+    }
+}
+
+impl MethodText {
+    /// An equal method.
+    pub fn copy(&self, alloc: Global) -> Result<MethodText, AllocError>
+        ensures equal { IfOk result (λ copy. copy ≡ self.now) }
+    {
+        Ok(MethodText {
+            flags: self.flags,
+            name: self.name.copy(alloc)?,
+            descriptor: self.descriptor.copy(alloc)?,
+            thrown: copy_names(alloc, self.thrown.as_slice())?,
+            body: copy_body(alloc, &self.body)?,
+        })
+    }
+}
+
+impl Body {
+    /// An equal body.
+    pub fn copy(&self, alloc: Global) -> Result<Body, AllocError>
+        ensures equal { IfOk result (λ copy. copy ≡ self.now) }
+    {
+        Ok(Body {
+            class: self.class.copy(alloc)?,
+            flags: self.flags,
+            name: self.name.copy(alloc)?,
+            descriptor: self.descriptor.copy(alloc)?,
+            thrown: copy_names(alloc, self.thrown.as_slice())?,
+            statements: copy_list(alloc, self.statements.as_slice())?,
+        })
+    }
+}
+
+fn copy_name(alloc: Global, name: &Option<ClassName>) -> Result<Option<ClassName>, AllocError>
+    ensures equal { IfOk result (λ copy. copy ≡ name.now) }
+{
+    match name {
+        Some(name) => Ok(Some(name.copy(alloc)?)),
+        None => Ok(None),
+    }
+}
+
+fn copy_helper(alloc: Global, name: &Option<Units>) -> Result<Option<Units>, AllocError>
+    ensures equal { IfOk result (λ copy. copy ≡ name.now) }
+{
+    match name {
+        Some(name) => Ok(Some(name.copy(alloc)?)),
+        None => Ok(None),
+    }
+}
+
+fn copy_body(alloc: Global, body: &Option<Body>) -> Result<Option<Body>, AllocError>
+    ensures equal { IfOk result (λ copy. copy ≡ body.now) }
+{
+    match body {
+        Some(body) => Ok(Some(body.copy(alloc)?)),
+        None => Ok(None),
+    }
+}
+
+fn copy_fields(alloc: Global, fields: &[FieldText]) -> Result<Items<FieldText>, AllocError>
+    ensures equal { IfOk result (λ copy. copy ≡ fields.now) }
+{
+    let mut copy = Items::new(alloc);
+    for field in fields {
+        copy.push(field.copy(alloc)?)?;
+    }
+    Ok(copy)
+}
+
+fn copy_methods(alloc: Global, methods: &[MethodText]) -> Result<Items<MethodText>, AllocError>
+    ensures equal { IfOk result (λ copy. copy ≡ methods.now) }
+{
+    let mut copy = Items::new(alloc);
+    for method in methods {
+        copy.push(method.copy(alloc)?)?;
+    }
+    Ok(copy)
 }

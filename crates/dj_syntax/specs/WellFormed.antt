@@ -1,0 +1,148 @@
+-- Which trees have a text: names are names, and a head says what its members are (JLS 3.8, 8, 9).
+use Rattle.std.specs.Prelude.{◌≡◌, ◌≢◌, ℕ, ◌==◌, Bool, true, false, IsTrue, IsFalse, ◌&&◌, not, if◌then◌else◌, List, [], ◌∷◌, ◌++◌, Option, Some, None, IfSome, is_some, bit_and, bit_or, codes, ◌<◌, ◌^◌, FitsSigned}
+use Rattle.std.specs.Int.{w32}
+use Rattle.std.specs.Fmt.{decimal}
+use Rattle.std.specs.List.{AllByRecursion}
+use Rattle.dj_names.specs.Types.{JType, Boolean, Byte, Char, Short, Int, Long, Float, Double, Class, Array, Descriptor, Field, Method}
+use Rattle.dj_names.specs.Identifiers.{IsIdentifier}
+use Rattle.dj_syntax.specs.Trees.{Exp, Variable, Binary, Stm, Block, Return, Stms, Empty, And, Body, FieldText, MethodText, CompilationUnit}
+use Rattle.dj_syntax.specs.Trees as trees
+use Rattle.dj_syntax.specs.UnitText.{segments, is_constructor, is_initialiser, is_interface, class_bits, field_bits, method_bits, result_of}
+
+-- ---- names
+
+-- a name of segments with slashes between them, each an identifier
+abbrev pub IsQualified : List ℕ → Type 0
+IsQualified name = AllByRecursion IsIdentifier (segments name)
+
+-- each class that a type names is one that can be written
+abbrev pub IsNamed : JType → Type 0
+IsNamed Boolean = Unit {0}
+IsNamed Byte = Unit {0}
+IsNamed Char = Unit {0}
+IsNamed Short = Unit {0}
+IsNamed Int = Unit {0}
+IsNamed Long = Unit {0}
+IsNamed Float = Unit {0}
+IsNamed Double = Unit {0}
+IsNamed (Class name) = IsQualified name
+IsNamed (Array element) = IsNamed element
+
+-- a method's descriptor, each type of which can be written
+abbrev pub IsMethodDescriptor : Descriptor → Type 0
+IsMethodDescriptor (Field kind) = ⊥
+IsMethodDescriptor (Method parameters result) = AllByRecursion IsNamed parameters × IfSome result IsNamed
+
+-- the name of a helper: `rethrow$` and a number in digits
+abbrev pub IsHelperName : List ℕ → Type 0
+IsHelperName name = (number : ℕ) × (name ≡ codes "rethrow$" ++ decimal number)
+
+-- ---- flags
+
+-- the flags that the text of a class or interface gives back: what it shows, and what an interface implies
+abbrev pub held_class : ℕ → ℕ
+held_class flags = bit_or (bit_and flags (class_bits (is_interface flags))) (if is_interface flags then 0x0600 else 0)
+
+-- the flags that the text of a field gives back; an interface implies public, and final beside a value
+abbrev pub held_field : Bool → FieldText → ℕ
+held_field interface field =
+    bit_or (bit_and field.flags (field_bits interface (is_some field.value)))
+    (if interface then (if is_some field.value then 0x0011 else 0x0001) else 0)
+
+-- the flags that the text of a method gives back; an interface implies public, and abstract where there is no body and no `static`
+abbrev pub held_method : Bool → MethodText → ℕ
+held_method interface method =
+    if is_initialiser method.name then 0x0008
+    else bit_or (bit_and method.flags (method_bits interface))
+    (if interface then (if not (is_some method.body) && (bit_and method.flags 0x0008 == 0) then 0x0401 else 0x0001) else 0)
+
+-- ---- members
+
+-- one fact or another, by a test
+abbrev pub cond_type : Bool → Type 0 → Type 0 → Type 0
+cond_type true first second = first
+cond_type false first second = second
+
+-- the head of a body is that of its method, in the class of its unit
+pub record HasHeadOf (owner : List ℕ) (method : MethodText) (body : Body) : Type 0 where
+  pub class : body.class ≡ owner
+  pub flags : body.flags ≡ method.flags
+  pub name : body.name ≡ method.name
+  pub descriptor : body.descriptor ≡ method.descriptor
+  pub thrown : body.thrown ≡ method.thrown
+
+-- a static initialiser takes nothing, gives nothing, lists no exception and has a body
+pub record IsInitialiser (method : MethodText) : Type 0 where
+  pub descriptor : method.descriptor ≡ Method [] None
+  pub thrown : method.thrown ≡ []
+  pub body : IsTrue (is_some method.body)
+
+-- a method's name is an identifier, or that of a constructor without a result or of a static initialiser
+abbrev pub HasMethodName : MethodText → Type 0
+HasMethodName method =
+    cond_type (is_constructor method.name) (result_of method.descriptor ≡ None)
+    (cond_type (is_initialiser method.name) (IsInitialiser method) (IsIdentifier method.name))
+
+-- ---- statements
+
+-- an int literal of 32 bits, a variable with a number of 32 bits
+abbrev pub IsWellFormedExp : Exp → Type 0
+IsWellFormedExp (trees.Int number) = FitsSigned w32 number
+IsWellFormedExp (Variable variable) = variable.number < 2 ^ 32
+IsWellFormedExp (Binary operator left right) = IsWellFormedExp left × IsWellFormedExp right
+
+abbrev mutual
+  -- a statement whose expressions are well formed
+  pub IsWellFormedStm : Stm → Type 0
+  IsWellFormedStm (Block list) = AreWellFormedStms list
+  IsWellFormedStm (Return value) = IfSome value IsWellFormedExp
+
+  -- statements, each well formed
+  pub AreWellFormedStms : Stms → Type 0
+  AreWellFormedStms Empty = Unit {0}
+  AreWellFormedStms (And first rest) = IsWellFormedStm first × AreWellFormedStms rest
+
+-- ---- members
+
+-- a field of a class or interface
+pub record IsWellFormedField (interface : Bool) (field : FieldText) : Type 0 where
+  pub name : IsIdentifier field.name
+  pub kind : IsNamed field.kind
+  pub flags : field.flags ≡ held_field interface field
+  pub value : IfSome field.value IsWellFormedExp
+
+-- a body that stands in a method of a class
+pub record IsWellFormedBody (class : List ℕ) (method : MethodText) (body : Body) : Type 0 where
+  pub head : HasHeadOf class method body
+  pub statements : AreWellFormedStms body.statements
+
+-- a method of a class or interface
+pub record IsWellFormedMethod (interface : Bool) (class : List ℕ) (method : MethodText) : Type 0 where
+  pub name : HasMethodName method
+  pub descriptor : IsMethodDescriptor method.descriptor
+  pub thrown : AllByRecursion IsQualified method.thrown
+  pub flags : method.flags ≡ held_method interface method
+  pub body : IfSome method.body (IsWellFormedBody class method)
+
+-- the name of a unit's class: its package's segments and its own
+abbrev pub class_name : CompilationUnit → List ℕ
+class_name unit = in_package unit.«package» unit.name
+  where
+    in_package : Option (List ℕ) → List ℕ → List ℕ
+    in_package None name = name
+    in_package (Some package_name) name = package_name ++ 47 ∷ name
+
+-- an interface names no superclass, a class none that it has without a word
+abbrev pub IsSuperclass : Bool → List ℕ → Type 0
+IsSuperclass interface name = IsFalse interface × IsQualified name × (name ≢ codes "java/lang/Object")
+
+-- a unit that has a text
+pub record IsWellFormed (unit : CompilationUnit) : Type 0 where
+  pub in_package : IfSome unit.«package» IsQualified
+  pub name : IsIdentifier unit.name
+  pub flags : unit.flags ≡ held_class unit.flags
+  pub superclass : IfSome unit.superclass (IsSuperclass (is_interface unit.flags))
+  pub interfaces : AllByRecursion IsQualified unit.interfaces
+  pub fields : AllByRecursion (IsWellFormedField (is_interface unit.flags)) unit.fields
+  pub helper : IfSome unit.helper IsHelperName
+  pub methods : AllByRecursion (IsWellFormedMethod (is_interface unit.flags) (class_name unit)) unit.methods
