@@ -11,6 +11,7 @@ use Rattle.dj_cli.specs.declared.code.Calc.TheVariants as calc
 use Rattle.dj_cli.specs.declared.code.Constant.TheVariants as constant
 use Rattle.dj_cli.specs.declared.code.Instruction.{Instruction}
 use Rattle.dj_cli.specs.declared.code.Instruction.TheVariants as instruction
+use Rattle.dj_cli.specs.Machine.{Instructions}
 
 -- an expression over the parameters of a static method whose parameters are ints
 pub data Formula : Type 0 where
@@ -53,6 +54,16 @@ abbrev pub UsesParameters : ℕ → Formula → Type 0
 UsesParameters count (Number number) = Unit {0}
 UsesParameters count (Parameter slot) = slot < count
 UsesParameters count (Calculation calc left right) = UsesParameters count left × UsesParameters count right
+
+-- the offsets rise, none of them below this one
+abbrev pub IsRisingFrom : ℕ → Instructions → Type 0
+IsRisingFrom least [] = Unit {0}
+IsRisingFrom least (first ∷ rest) = (least ≤ first.0) × IsRisingFrom (first.0 + 1) rest
+
+-- the first instruction stands at offset 0, and each other one behind the one before it
+abbrev pub IsRising : Instructions → Type 0
+IsRising [] = Unit {0}
+IsRising (first ∷ rest) = (first.0 ≡ 0) × IsRisingFrom 1 rest
 
 -- Instructions are the postfix form of a formula and `ireturn`, within these limits: parameters that
 -- there are, 64 levels of operators, values on the stack.
