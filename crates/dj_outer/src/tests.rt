@@ -1,0 +1,1 @@
+//! The trusted edge, and each implementation once through its trait.
