@@ -4,18 +4,18 @@
 #![tactic(auto)]
 
 mod count;
-// mod disk_files;
+mod disk_files;
 mod files;
 mod memory_files;
 mod memory_sink;
 mod sink;
-// mod stream_sink;
+mod stream_sink;
 #[cfg(test)]
 mod tests;
 
-// pub use disk_files::DiskFiles;
+pub use disk_files::DiskFiles;
 pub use files::{Failed, Files, LoadFault, Loaded};
 pub use memory_files::MemoryFiles;
 pub use memory_sink::MemorySink;
 pub use sink::Sink;
-// pub use stream_sink::StreamSink;
+pub use stream_sink::StreamSink;

@@ -26,11 +26,11 @@ impl Model for MemorySink {
     ghost Value = { SinkState };
 
     ghost view = { λ sink. record {
-        room = sink.room;
-        taken = sink.taken.items;
-        failing = sink.failing.items;
-        calls = sink.calls;
-        faults = sink.faults
+      room = sink.room;
+      taken = sink.taken.items;
+      failing = sink.failing.items;
+      calls = sink.calls;
+      faults = sink.faults;
     } };
 
     ghost invariant = { λ sink. (vec_len sink.taken ≤ sink.room) × (sink.room ≤ vec_capacity sink.taken) };
@@ -40,11 +40,11 @@ impl MemorySink {
     /// A sink in memory that takes `room` bytes in all.
     pub fn new(alloc: Global, room: usize, failing: Vec<u64>) -> Result<MemorySink, AllocError>
         ensures { IfOk result (λ sink. sink ≡ record {
-            room = room;
-            taken = [];
-            failing = failing.items;
-            calls = 0;
-            faults = 0
+          room = room;
+          taken = [];
+          failing = failing.items;
+          calls = 0;
+          faults = 0;
         }) }
     {
         Ok(MemorySink {

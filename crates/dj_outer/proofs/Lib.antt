@@ -1,0 +1,2 @@
+mod WroteFront
+mod ReadFront
