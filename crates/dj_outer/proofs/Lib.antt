@@ -1,2 +1,1 @@
 mod WroteFront
-mod ReadFront

@@ -1,17 +1,14 @@
 -- A writer that took the front of a piece, while the rest is still to be written.
-use Rattle.std.proofs.Common.{◌≡◌, ℕ, List, [], ◌++◌, Option, take, drop, length, refl, sym, ap, ◌∙◌, subst, append_assoc, append-nil, take-append-drop}
+use Rattle.std.proofs.Common.{◌≡◌, ℕ, List, ◌++◌, Option, take, drop, length, sym, ap, ◌∙◌, subst, append_assoc, take-append-drop}
 use lib.Seq.{take-append_seam}
 use Rattle.std.specs.Io.KnownBytes.{Appends, Keeps}
-use Rattle.std.proofs.KnownBytes.{Appends-nil, Appends-trans, Appends-kept}
+use Rattle.std.proofs.KnownBytes.{Appends-trans, Appends-kept}
 
 -- what the writer took since `before` is the piece without the rest
 pub record WroteFront (before now : Option (List ℕ)) (piece rest : List ℕ) : Type 0 where
   pub done : List ℕ
   pub split : piece ≡ done ++ rest
   pub appended : Appends before now done
-
-pub WroteFront-none : (now : Option (List ℕ)) (piece : List ℕ) → WroteFront now now piece piece
-WroteFront-none now piece = record { done = []; split = refl; appended = Appends-nil now }
 
 pub WroteFront-more : (before now after : Option (List ℕ)) (piece rest : List ℕ) (count : ℕ) → WroteFront before now piece rest
     → Appends now after (take count rest) → WroteFront before after piece (drop count rest)
@@ -28,7 +25,3 @@ WroteFront-kept before now after piece rest front keeps =
 pub Appends-front : (before now : Option (List ℕ)) (piece rest : List ℕ) → WroteFront before now piece rest → (count : ℕ) × Appends before now (take count piece)
 Appends-front before now piece rest front =
     (length front.done, subst (Appends before now) (sym (ap (take (length front.done)) front.split ∙ take-append_seam front.done rest)) front.appended)
-
-pub Appends-whole : (before now : Option (List ℕ)) (piece rest : List ℕ) → WroteFront before now piece rest → rest ≡ [] → Appends before now piece
-Appends-whole before now piece rest front empty =
-    subst (Appends before now) (sym (front.split ∙ ap (λ l. front.done ++ l) empty ∙ append-nil front.done)) front.appended

@@ -6,23 +6,33 @@ use crate::count::raise;
 use crate::{Files, LoadFault, Loaded};
 use std::alloc::Global;
 use std::io::Read;
+use std::marker::Model;
 use std::{fs, rt};
 
 /// How many bytes one read asks for at most.
 const PIECE: usize = 65536;
 
 /// The files of a runtime. A load ends at the first error of the system, which counts as a fault:
-/// where the file is missing or a directory, and where a call is interrupted, too.
+/// where the file is missing or a directory, and where a call is interrupted, too. Contracts see it
+/// as its count of faults.
 #[derive(Drop)]
 pub struct DiskFiles<'a, R> {
     runtime: &'a R,
     faults: u64,
 }
 
+impl<'a, R> Model for DiskFiles<'a, R> {
+    ghost use Rattle.std.specs.Prelude.{ℕ};
+
+    ghost Value = { ℕ };
+
+    ghost view = { λ disk. disk.faults };
+}
+
 impl<'a, R> DiskFiles<'a, R> {
     /// The files of this runtime, with no fault so far.
     pub fn new(rt: &'a R) -> DiskFiles<'a, R>
-        ensures { result.faults ≡ 0 }
+        ensures { result ≡ 0 }
     {
         DiskFiles {
             runtime: rt,
@@ -36,7 +46,7 @@ impl<R: rt::Files> Files for DiskFiles<'_, R> {
 
     ghost asked = { λ _. None };
 
-    ghost faults = { λ disk. disk.faults };
+    ghost faults = { λ count. count };
 
     fn load(&mut self, alloc: Global, name: &str, limit: usize) -> Result<Loaded, LoadFault> {
         let outcome = load_file(self.runtime, alloc, name, limit);

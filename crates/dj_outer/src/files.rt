@@ -5,7 +5,7 @@ use std::alloc::{AllocError, AllocFailed, Global};
 use thiserror::Error;
 
 /// What a file gave: all its bytes, or that it has more than the limit.
-#[derive(Debug, Drop)]
+#[derive(Debug, PartialEq, Eq, Drop)]
 pub enum Loaded {
     Whole(Vec<u8>),
     Over,

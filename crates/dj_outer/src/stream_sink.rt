@@ -5,19 +5,29 @@ ghost use Rattle.std.specs.Io.KnownBytes.{Appends};
 use crate::count::raise;
 use crate::{Failed, Sink};
 use std::io::Write;
+use std::marker::Model;
 
 /// A sink over a writer. A put ends at the first error of the writer, which counts as a fault, and so
-/// does a write that takes nothing. A put that succeeds has flushed the writer.
+/// does a write that takes nothing. A put that succeeds has flushed the writer. Contracts see
+/// it as its count of faults.
 #[derive(Drop)]
 pub struct StreamSink<W> {
     writer: W,
     faults: u64,
 }
 
+impl<W> Model for StreamSink<W> {
+    ghost use Rattle.std.specs.Prelude.{ℕ};
+
+    ghost Value = { ℕ };
+
+    ghost view = { λ sink. sink.faults };
+}
+
 impl<W> StreamSink<W> {
     /// A sink over this writer, with no fault so far.
     pub fn new(writer: W) -> StreamSink<W>
-        ensures { result.faults ≡ 0 }
+        ensures { result ≡ 0 }
     {
         StreamSink { writer, faults: 0 }
     }
@@ -26,7 +36,7 @@ impl<W> StreamSink<W> {
 impl<W: Write> Sink for StreamSink<W> {
     ghost taken = { λ _. None };
 
-    ghost faults = { λ sink. sink.faults };
+    ghost faults = { λ count. count };
 
     fn put(&mut self, piece: &[u8]) -> Result<(), Failed> {
         let outcome = write_whole(&mut self.writer, piece);
