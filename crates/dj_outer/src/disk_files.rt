@@ -1,6 +1,6 @@
 //! Files of the real system: the trusted edge, which counts faults and tells nothing else.
 ghost use Rattle.std.specs.Prelude.{◌≡◌, ◌≤◌, ◌<◌, None, IfSome, length};
-ghost use Rattle.dj_outer.specs.Loads.{IfWhole, OnOver};
+ghost use Rattle.dj_outer.specs.Files.{IfWhole, OnOver};
 
 use crate::count::raise;
 use crate::{Files, LoadFault, Loaded};
@@ -10,7 +10,7 @@ use std::marker::Model;
 use std::{fs, rt};
 
 /// How many bytes one read asks for at most.
-const PIECE: usize = 65536;
+const BUFFER: usize = 65536;
 
 /// The files of a runtime. A load ends at the first error of the system, which counts as a fault:
 /// where the file is missing or a directory, and where a call is interrupted, too. Contracts see it
@@ -68,32 +68,32 @@ fn load_file<R: rt::Files>(
     let Ok(mut file) = fs::open(runtime, name) else {
         return Err(LoadFault::Failed);
     };
-    let mut piece = vec![in alloc; 0u8; PIECE]?;
-    read_within(alloc, &mut file, limit, &mut piece)
+    let mut buffer = vec![in alloc; 0u8; BUFFER]?;
+    read_within(alloc, &mut file, limit, &mut buffer)
 }
 
-/// Reads to the end, piece by piece, or one byte past the limit.
+/// Reads to the end, or one byte past the limit.
 pub(crate) fn read_within<R: Read>(
     alloc: Global,
     reader: &mut R,
     limit: usize,
-    piece: &mut [u8],
+    buffer: &mut [u8],
 ) -> Result<Loaded, LoadFault>
-    requires { 0 < length piece.old }
+    requires { 0 < length buffer.old }
     ensures whole { IfWhole result (λ bytes. IfSome (R.remaining reader.old) (λ left. left ≡ bytes)) }
     ensures within { IfWhole result (λ bytes. length bytes ≤ limit) }
     ensures over { OnOver result (IfSome (R.remaining reader.old) (λ left. limit < length left)) }
 {
     let mut bytes = Vec::new(alloc);
     while bytes.len() <= limit {
-        let room = piece.len().min((limit - bytes.len()).saturating_add(1));
-        let Ok(count) = reader.read(&mut piece[..room]) else {
+        let room = buffer.len().min((limit - bytes.len()).saturating_add(1));
+        let Ok(count) = reader.read(&mut buffer[..room]) else {
             return Err(LoadFault::Failed);
         };
         if count == 0 {
             return Ok(Loaded::Whole(bytes));
         }
-        bytes.extend_from_slice(&piece[..count])?;
+        bytes.extend_from_slice(&buffer[..count])?;
     }
     Ok(Loaded::Over)
 }

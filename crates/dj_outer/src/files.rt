@@ -16,6 +16,7 @@ pub enum Loaded {
 #[error("the outside failed")]
 pub struct Failed;
 
+/// Why a load gave nothing: the outside failed, or memory was wanting.
 #[derive(Clone, Copy, Debug, PartialEq, Eq)]
 pub enum LoadFault {
     Failed,
@@ -47,8 +48,8 @@ impl<T: Drop> From<AllocFailed<T>> for LoadFault {
 /// Files that are loaded by name. `held` is what they hold, as names with bytes, and `asked` the
 /// names that were asked for, oldest first, each where it is told; `faults` counts what went wrong.
 pub trait Files {
-    ghost use Rattle.dj_outer.specs.Counts.{Rose};
-    ghost use Rattle.dj_outer.specs.Loads.{IfWhole, OnOver, OnFailed, OnMemory, UnlessMemory, HasFile, with_asked};
+    ghost use Rattle.dj_outer.specs.Count.{Rose};
+    ghost use Rattle.dj_outer.specs.Files.{IfWhole, OnOver, OnFailed, OnMemory, UnlessMemory, HasFile, with_asked};
 
     ghost held: { Self → Option (List (List ℕ × List ℕ)) };
 

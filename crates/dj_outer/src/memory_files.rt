@@ -1,8 +1,8 @@
 //! Files in memory, which tell what they hold and what they were asked.
 ghost use Rattle.std.specs.Prelude.{◌≡◌, ◌≤◌, ◌<◌, ◌↔◌, [], Err, Some, length, map, string_bytes, IfOk, IfNone, IfSome, IsNone, IsSomeAnd};
 ghost use Rattle.std.specs.Option.{option_copied};
-ghost use Rattle.dj_outer.specs.Loads.{IfWhole, OnOver, UnlessMemory, file_named};
-ghost use Rattle.dj_outer.specs.InMemory.{FilesState, Gives, LoadFails, after_load, told_files};
+ghost use Rattle.dj_outer.specs.Files.{IfWhole, OnOver, UnlessMemory, file_named};
+ghost use Rattle.dj_outer.specs.MemoryFiles.{FilesState, Gives, LoadFails, after_load, told_files};
 
 use crate::count::raise;
 use crate::{Files, LoadFault, Loaded};
@@ -61,9 +61,7 @@ impl Files for MemoryFiles {
     ghost faults = { λ files. files.faults };
 
     fn load(&mut self, alloc: Global, name: &str, limit: usize) -> Result<Loaded, LoadFault>
-        ensures whole { IfWhole result (λ bytes. file_named self.old.held name.now ≡ Some bytes) }
-        ensures within { IfWhole result (λ bytes. length bytes ≤ limit) }
-        ensures over { OnOver result (IsSomeAnd (file_named self.old.held name.now) (λ file. limit < length file)) }
+        ensures loaded { IfOk result (λ loaded. IsSomeAnd (file_named self.old.held name.now) (Gives loaded limit)) }
         ensures failed { UnlessMemory result ((result ≡ Err LoadFault.Failed) ↔ LoadFails self.old name.now) }
         ensures after { self.new ≡ after_load self.old name.now result }
         ensures never_falls { self.old.faults ≤ self.new.faults }

@@ -1,6 +1,6 @@
 //! A sink in memory, which tells what it took.
 ghost use Rattle.std.specs.Prelude.{◌≡◌, ◌≤◌, ◌↔◌, [], Err, Some, IfOk, IsErr};
-ghost use Rattle.dj_outer.specs.InMemory.{PutFails, SinkState, after_put};
+ghost use Rattle.dj_outer.specs.MemorySink.{PutFails, SinkState, after_put};
 
 use crate::count::raise;
 use crate::{Failed, Sink};
@@ -21,7 +21,7 @@ pub struct MemorySink {
 impl Model for MemorySink {
     ghost use Rattle.std.specs.Prelude.{◌≤◌};
     ghost use Rattle.std.specs.Vec.{vec_len, vec_capacity};
-    ghost use Rattle.dj_outer.specs.InMemory.{SinkState};
+    ghost use Rattle.dj_outer.specs.MemorySink.{SinkState};
 
     ghost Value = { SinkState };
 

@@ -1,8 +1,8 @@
 //! A sink of bytes, as whoever writes into it sees it.
 ghost use Rattle.std.specs.Prelude.{◌≡◌, ◌≤◌, ℕ, List, Option, OnOk, OnErr, take};
 ghost use Rattle.std.specs.Io.KnownBytes.{append_known};
-ghost use Rattle.dj_outer.specs.Counts.{Rose};
-ghost use Rattle.dj_outer.specs.Puts.{TakesPrefix};
+ghost use Rattle.dj_outer.specs.Count.{Rose};
+ghost use Rattle.dj_outer.specs.Sink.{TakesPrefix};
 
 use crate::Failed;
 

@@ -1,7 +1,7 @@
 -- what was passed has not the name
 use Rattle.std.proofs.Common.{◌≡◌, drop}
-use Rattle.dj_outer.specs.Loads.{file_named}
-use Rattle.dj_outer.specs.InMemory.{told_files}
+use Rattle.dj_outer.specs.Files.{file_named}
+use Rattle.dj_outer.specs.MemoryFiles.{told_files}
 use Rattle.dj_outer.proofs.memory_files.bytes_of.Given as goal
 
 abbrev pub invariant-loop-held : goal.invariant-loop-held

@@ -1,16 +1,14 @@
--- What files and a sink in memory show, and which of their calls fail.
-use Rattle.std.specs.Prelude.{◌≡◌, ◌⊎◌, ◌+◌, ◌<◌, ◌≤◌, ◌++◌, [], ◌∷◌, ℕ, List, Result, Ok, Err, length, map, Contains, IsNone, String, string_bytes, Vec}
+-- What files in memory show, and which of their calls fail.
+use Rattle.std.specs.Prelude.{◌≡◌, ◌⊎◌, ◌<◌, ◌≤◌, ◌++◌, [], ◌∷◌, ℕ, List, Result, Ok, Err, length, map, Contains, IsNone, String, string_bytes, Vec}
 use Rattle.std.specs.declared.alloc.Global.{Global}
 use Rattle.dj_outer.specs.declared.files.Loaded.{Loaded}
 use Rattle.dj_outer.specs.declared.files.Loaded.TheVariants.{Whole, Over}
-use Rattle.dj_outer.specs.declared.files.Failed.{Failed as Fault}
 use Rattle.dj_outer.specs.declared.files.LoadFault.{LoadFault}
 use Rattle.dj_outer.specs.declared.files.LoadFault.TheVariants.{Failed, Memory}
-use Rattle.dj_outer.specs.Counts.{next_count}
-use Rattle.dj_outer.specs.Loads.{file_named}
+use Rattle.dj_outer.specs.Count.{next_count}
+use Rattle.dj_outer.specs.Files.{file_named}
 
--- What files in memory show: names with bytes, the numbers of the calls that fail, the number of the
--- next call, the names asked, oldest first, and the count of faults.
+-- the files with their names, the numbers of the calls that fail, the next call's number, the names asked, the faults
 pub record FilesState : Type 0 where
   pub held : List (List ℕ × List ℕ)
   pub failing : List ℕ
@@ -31,28 +29,10 @@ Gives Over limit bytes = limit < length bytes
 abbrev pub LoadFails : FilesState → List ℕ → Type 0
 LoadFails files name = Contains files.failing files.calls ⊎ IsNone (file_named files.held name)
 
--- Each load spends its number. The name is asked unless memory is wanting, and Failed counts a fault.
+-- a load spends its number; the name is asked unless memory is wanting, and Failed counts a fault
 abbrev pub after_load : FilesState → List ℕ → Result Loaded LoadFault → FilesState
 after_load files name (Ok loaded) =
     record files { calls = next_count files.calls; asked = files.asked ++ name ∷ [] }
 after_load files name (Err Failed) =
     record files { calls = next_count files.calls; asked = files.asked ++ name ∷ []; faults = next_count files.faults }
 after_load files name (Err (Memory error)) = record files { calls = next_count files.calls }
-
--- What a sink in memory shows: how many bytes it takes in all, those taken, and its calls and faults
--- as for files.
-pub record SinkState : Type 0 where
-  pub room : ℕ
-  pub taken : List ℕ
-  pub failing : List ℕ
-  pub calls : ℕ
-  pub faults : ℕ
-
--- the next put fails: its number is listed, or the piece needs more room than is left
-abbrev pub PutFails : SinkState → List ℕ → Type 0
-PutFails sink piece = Contains sink.failing sink.calls ⊎ (sink.room < length sink.taken + length piece)
-
--- Each put spends its number. The piece is taken, or a fault counts.
-abbrev pub after_put : SinkState → List ℕ → Result (Unit {0}) Fault → SinkState
-after_put sink piece (Ok done) = record sink { taken = sink.taken ++ piece; calls = next_count sink.calls }
-after_put sink piece (Err fault) = record sink { calls = next_count sink.calls; faults = next_count sink.faults }
