@@ -1,0 +1,10 @@
+-- what is gone from the rest was written
+use Rattle.std.proofs.Common.{length}
+use Rattle.dj_outer.proofs.WroteFront.{WroteFront}
+use Rattle.dj_outer.proofs.stream_sink.write_whole.Given as goal
+
+abbrev pub invariant-loop-rest : goal.invariant-loop-rest
+invariant-loop-rest g l = WroteFront (g.W.Write.contents l.initial.writer) (g.W.Write.contents l.writer) l.piece l.rest
+
+abbrev pub decreases-loop-rest : goal.decreases-loop-rest
+decreases-loop-rest g l = length l.rest
