@@ -7,3 +7,10 @@ pub mod Operators
 pub mod Meaning
 pub mod SameShows
 pub mod Straight
+pub mod Status
+pub mod Words
+pub mod Report
+pub mod Answer
+pub mod AnswerView
+pub mod Program
+pub mod Loading

@@ -3,4 +3,12 @@
 //! The program uses `run`, whose clauses are the headline.
 #![tactic(auto)]
 
+mod answer;
 mod code;
+mod loading;
+mod report;
+mod status;
+mod words;
+
+pub use status::{Status, UsageKind};
+pub use words::{Order, WordsFault, read_words};

@@ -1,0 +1,65 @@
+//! The files of an order, loaded by name.
+
+ghost use Rattle.std.specs.Prelude.{◌≡◌, ◌≤◌, ◌++◌, length, map, Some, IfSome, IfOk, OnOk, IfErr};
+ghost use Rattle.std.specs.Option.{option_map};
+ghost use Rattle.std.specs.String.{string_bytes};
+ghost use Rattle.dj_outer.specs.Loads.{file_named};
+ghost use Rattle.dj_cli.specs.Program.{ReadFails, IsTooMuch, AsksFront};
+ghost use Rattle.dj_cli.specs.Loading.{contents_of, Stopped};
+
+use dj_outer::{Files, LoadFault, Loaded};
+use std::alloc::{AllocError, AllocFailed, Global};
+
+/// The most bytes that a file may have.
+pub const MOST_BYTES: usize = 16_777_216;
+
+/// Why not all files were loaded.
+#[derive(Debug, Drop)]
+pub enum LoadStop {
+    /// The load at this place failed.
+    Fault(u32),
+    /// The file at this place is too large.
+    Over(u32),
+    Memory(AllocError),
+}
+
+impl<T: Drop> From<AllocFailed<T>> for LoadStop {
+    ghost use Rattle.std.specs.Prelude.{◌≡◌, alloc_error};
+    ghost use Rattle.dj_cli.specs.declared.loading.LoadStop.TheVariants.{Memory};
+
+    ghost from_gives = { λ _ stop. stop ≡ Memory alloc_error };
+
+    fn from(_: AllocFailed<T>) -> LoadStop {
+        LoadStop::Memory(AllocError)
+    }
+}
+
+/// The bytes of the files of these names, in order.
+pub fn load_files<F: Files>(
+    alloc: Global,
+    named: &[String],
+    files: &mut F,
+) -> Result<Vec<Vec<u8>>, LoadStop>
+    requires few { length named.now ≤ 4096 }
+    ensures loaded { IfOk result (λ contents. IfSome (F.held files.old) (λ held. map (file_named held) (map string_bytes named.now) ≡ map Some (contents_of contents.items))) }
+    ensures number { IfOk result (λ contents. length contents.items ≡ length named.now) }
+    ensures asked { OnOk result (F.asked files.new ≡ option_map (λ before. before ++ map string_bytes named.now) (F.asked files.old)) }
+    ensures stopped { IfErr result (λ stop. Stopped stop (ReadFails (map string_bytes named.now) (F.asked files.old) (F.asked files.new) (F.faults files.old) (F.faults files.new)) (IsTooMuch (F.held files.old) (map string_bytes named.now)) (AsksFront (F.asked files.old) (F.asked files.new) (map string_bytes named.now))) }
+
+    // What the call leaves.
+    ensures kept { F.held files.new ≡ F.held files.old }
+    ensures never_falls { F.faults files.old ≤ F.faults files.new }
+{
+    let mut contents = Vec::new(alloc);
+    let mut place: u32 = 0;
+    for name in named {
+        match files.load(alloc, name.as_str(), MOST_BYTES) {
+            Ok(Loaded::Whole(bytes)) => contents.push(bytes)?,
+            Ok(Loaded::Over) => return Err(LoadStop::Over(place)),
+            Err(LoadFault::Failed) => return Err(LoadStop::Fault(place)),
+            Err(LoadFault::Memory(error)) => return Err(LoadStop::Memory(error)),
+        }
+        place += 1;
+    }
+    Ok(contents)
+}
