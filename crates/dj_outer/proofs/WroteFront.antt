@@ -2,6 +2,7 @@
 use Rattle.std.proofs.Common.{◌≡◌, ℕ, List, ◌++◌, Option, take, drop, length, sym, ap, ◌∙◌, subst, append_assoc, take-append-drop}
 use lib.Seq.{take-append_seam}
 use Rattle.std.specs.Io.KnownBytes.{Appends, Keeps}
+use Rattle.dj_outer.specs.Sink.{AppendsFront}
 use Rattle.std.proofs.KnownBytes.{Appends-trans, Appends-kept}
 
 -- what the writer took since `before` is the piece without the rest
@@ -22,6 +23,6 @@ pub WroteFront-kept : (before now after : Option (List ℕ)) (piece rest : List 
 WroteFront-kept before now after piece rest front keeps =
     record { done = front.done; split = front.split; appended = Appends-kept before now after front.done front.appended keeps }
 
-pub Appends-front : (before now : Option (List ℕ)) (piece rest : List ℕ) → WroteFront before now piece rest → (count : ℕ) × Appends before now (take count piece)
-Appends-front before now piece rest front =
+pub AppendsFront-rest : (before now : Option (List ℕ)) (piece rest : List ℕ) → WroteFront before now piece rest → AppendsFront before now piece
+AppendsFront-rest before now piece rest front =
     (length front.done, subst (Appends before now) (sym (ap (take (length front.done)) front.split ∙ take-append_seam front.done rest)) front.appended)

@@ -1,44 +1,50 @@
 //! A sink over a writer of the system: the trusted edge, which counts faults and tells nothing else.
-ghost use Rattle.std.specs.Prelude.{◌≡◌, ℕ, None, OnOk, OnErr, take};
+ghost use Rattle.std.specs.Prelude.{◌≡◌, OnOk, OnErr};
 ghost use Rattle.std.specs.Io.KnownBytes.{Appends};
+ghost use Rattle.dj_outer.specs.Sink.{AppendsFront};
 
 use crate::count::raise;
 use crate::{Failed, Sink};
 use std::io::Write;
-use std::marker::Model;
 
 /// A sink over a writer. A put ends at the first error of the writer, which counts as a fault, and so
-/// does a write that takes nothing. A put that succeeds has flushed the writer. Contracts see
-/// it as its count of faults.
+/// does a write that takes nothing. A put that succeeds has flushed the writer. As a sink it tells
+/// nothing; over a writer that tells its bytes, the contract of this `put` says which were written.
 #[derive(Drop)]
 pub struct StreamSink<W> {
     writer: W,
     faults: u64,
 }
 
-impl<W> Model for StreamSink<W> {
-    ghost use Rattle.std.specs.Prelude.{ℕ};
-
-    ghost Value = { ℕ };
-
-    ghost view = { λ sink. sink.faults };
-}
-
 impl<W> StreamSink<W> {
+    ghost use Rattle.dj_outer.specs.StreamSink.{writer_of, stream_faults};
+
     /// A sink over this writer, with no fault so far.
     pub fn new(writer: W) -> StreamSink<W>
-        ensures { result ≡ 0 }
+        ensures writer { writer_of result ≡ writer }
+        ensures faults { stream_faults result ≡ 0 }
     {
         StreamSink { writer, faults: 0 }
     }
 }
 
 impl<W: Write> Sink for StreamSink<W> {
+    ghost use Rattle.std.specs.Prelude.{◌≤◌, None, OnOk, OnErr};
+    ghost use Rattle.std.specs.Io.KnownBytes.{Appends};
+    ghost use Rattle.dj_outer.specs.Count.{Rose};
+    ghost use Rattle.dj_outer.specs.Sink.{AppendsFront};
+    ghost use Rattle.dj_outer.specs.StreamSink.{writer_of, stream_faults};
+
     ghost taken = { λ _. None };
 
-    ghost faults = { λ count. count };
+    ghost faults = { λ sink. sink.faults };
 
-    fn put(&mut self, piece: &[u8]) -> Result<(), Failed> {
+    fn put(&mut self, piece: &[u8]) -> Result<(), Failed>
+        ensures ok { OnOk result (Appends (W.contents (writer_of self.old)) (W.contents (writer_of self.new)) piece.now) }
+        ensures prefix { OnErr result (AppendsFront (W.contents (writer_of self.old)) (W.contents (writer_of self.new)) piece.now) }
+        ensures failed { OnErr result (Rose (stream_faults self.old) (stream_faults self.new)) }
+        ensures never_falls { stream_faults self.old ≤ stream_faults self.new }
+    {
         let outcome = write_whole(&mut self.writer, piece);
         if outcome.is_err() {
             raise(&mut self.faults);
@@ -49,8 +55,7 @@ impl<W: Write> Sink for StreamSink<W> {
 
 fn write_whole<W: Write>(writer: &mut W, piece: &[u8]) -> Result<(), Failed>
     ensures ok { OnOk result (Appends (W.contents writer.old) (W.contents writer.new) piece.now) }
-    ensures prefix { OnErr result
-        ((count : ℕ) × Appends (W.contents writer.old) (W.contents writer.new) (take count piece.now)) }
+    ensures prefix { OnErr result (AppendsFront (W.contents writer.old) (W.contents writer.new) piece.now) }
 {
     let mut rest = piece;
     while !rest.is_empty() {
