@@ -1,1 +1,4 @@
 pub mod StraightShows
+pub mod LoadingLemmas
+pub mod TellingLemmas
+pub mod RunLemmas

@@ -14,3 +14,5 @@ pub mod Answer
 pub mod AnswerView
 pub mod Program
 pub mod Loading
+pub mod Telling
+pub mod Run

@@ -1,9 +1,10 @@
 -- What the program reads and writes: its output and its report, and when each answer of `run` comes.
-use Rattle.std.specs.Prelude.{◌≡◌, ◌≢◌, ◌⊎◌, ℕ, ◌+◌, ◌<◌, List, [], ◌∷◌, ◌++◌, length, map, take, slice_get, Option, Some, None, IfSome, IsSomeAnd, Result, Ok, Err}
+use Rattle.std.specs.Prelude.{◌≡◌, ◌≢◌, ◌⊎◌, ℕ, ◌+◌, ◌<◌, List, [], ◌∷◌, ◌++◌, length, map, take, slice_get, Option, Some, None, IfSome, IsSomeAnd, MatchBool, Bool, Result, Ok, Err}
 use Rattle.std.specs.Io.KnownBytes.{append_known}
 use Rattle.std.specs.Option.{option_map}
-use Rattle.dj_outer.specs.Counts.{Rose}
-use Rattle.dj_outer.specs.Loads.{file_named}
+use Rattle.dj_outer.specs.Count.{Rose}
+use Rattle.dj_outer.specs.Sink.{TakesPrefix}
+use Rattle.dj_outer.specs.Files.{file_named}
 use Rattle.dj_cli.specs.declared.status.UsageKind.{UsageKind}
 use Rattle.dj_cli.specs.Words.{order_of}
 use Rattle.dj_cli.specs.Report.{Line, Usage, Read, Much, line_text}
@@ -35,30 +36,36 @@ AnswersEach (name ∷ names) (bytes ∷ contents) text report =
     (first : List ℕ) × (others : List ℕ) × (lines : List ℕ) × (more : List ℕ)
     × IsAnswer name bytes first lines × AnswersEach names contents others more × (text ≡ first ++ others) × (report ≡ lines ++ more)
 
+-- the text and the report on so many first files
+abbrev pub first_answers : List (List ℕ) → List (List ℕ) → ℕ → List ℕ → List ℕ → Type 0
+first_answers names contents files = AnswersEach (take files names) (take files contents)
+
 -- what the program writes for files of these names among those held: its text and its report
 pub record IsOutput (held : Files) (names : List (List ℕ)) (text report : List ℕ) : Type 0 where
   pub contents : List (List ℕ)
   pub loaded : map (file_named held) names ≡ map Some contents
   pub answers : AnswersEach names contents text report
 
--- the whole of the output was written; `P` holds of the report
-pub record WroteAll (held : Files) (names : List (List ℕ)) (text_old text_new report_old report_new : Option (List ℕ)) (P : List ℕ → Type 0) : Type 0 where
+-- a text and a report such as `Answer` tells were written, whole, and the flag tells whether the report has a line
+pub record WroteAll (Answer : List ℕ → List ℕ → Type 0) (text_old text_new report_old report_new : Option (List ℕ)) (refused : Bool) : Type 0 where
   pub text : List ℕ
   pub report : List ℕ
-  pub output : IsOutput held names text report
+  pub answer : Answer text report
   pub text_taken : text_new ≡ append_known text_old text
   pub report_taken : report_new ≡ append_known report_old report
-  pub holds : P report
+  pub refused_is : MatchBool refused (report ≢ []) (report ≡ [])
 
--- a front of the output's text and of its report were written, and nothing else
-pub record WroteFront (held : Files) (names : List (List ℕ)) (text_old text_new report_old report_new : Option (List ℕ)) : Type 0 where
+-- fronts of a text and a report such as `Answer` tells were written, and nothing else
+pub record WroteFront (Answer : List ℕ → List ℕ → Type 0) (text_old text_new report_old report_new : Option (List ℕ)) : Type 0 where
   pub text : List ℕ
   pub report : List ℕ
-  pub output : IsOutput held names text report
-  pub text_count : ℕ
-  pub report_count : ℕ
-  pub text_taken : text_new ≡ append_known text_old (take text_count text)
-  pub report_taken : report_new ≡ append_known report_old (take report_count report)
+  pub answer : Answer text report
+  pub text_taken : TakesPrefix text_old text_new text
+  pub report_taken : TakesPrefix report_old report_new report
+
+-- the same of the files in front of some place
+abbrev pub WroteFrontOfSome : (ℕ → List ℕ → List ℕ → Type 0) → Option (List ℕ) → Option (List ℕ) → Option (List ℕ) → Option (List ℕ) → Type 0
+WroteFrontOfSome Answer text_old text_new report_old report_new = (files : ℕ) × WroteFront (Answer files) text_old text_new report_old report_new
 
 -- the load of the name at this place failed, the first that did: no name behind it was asked for
 pub record ReadFails (names : List (List ℕ)) (asked_old asked_new : Option (List (List ℕ))) (faults_old faults_new : ℕ) (place : ℕ) : Type 0 where
@@ -74,3 +81,23 @@ pub record IsTooMuch (held : Option Files) (names : List (List ℕ)) (place : �
 -- the names asked in a call are a front of these, where they are told
 abbrev pub AsksFront : Option (List (List ℕ)) → Option (List (List ℕ)) → List (List ℕ) → Type 0
 AsksFront old new names = (count : ℕ) × (new ≡ option_map (λ before. before ++ take count names) old)
+
+-- the output on so many first files of these names
+abbrev pub first_output : Files → List (List ℕ) → ℕ → List ℕ → List ℕ → Type 0
+first_output held names files = IsOutput held (take files names)
+
+-- one last line was put, and no text
+pub record TellsLine (line : Line) (text_old text_new report_old report_new : Option (List ℕ)) : Type 0 where
+  pub text_kept : text_new ≡ text_old
+  pub report_taken : report_new ≡ append_known report_old (line_text line)
+
+-- the putting of one last line failed; no text was put
+pub record CutsLine (line : Line) (text_old text_new report_old report_new : Option (List ℕ)) : Type 0 where
+  pub text_kept : text_new ≡ text_old
+  pub report_taken : TakesPrefix report_old report_new (line_text line)
+
+-- what Usage, ReadFault and TooMuch come from, with the last line of each
+pub data LastLine (order : Result (List (List ℕ)) UsageKind) (held : Option Files) (asked_old asked_new : Option (List (List ℕ))) (faults_old faults_new : ℕ) : Line → Type 0 where
+  usage : {kind : UsageKind} → order ≡ Err kind → LastLine order held asked_old asked_new faults_old faults_new (Usage kind)
+  read : {place : ℕ} → ReadFails (names_or_none order) asked_old asked_new faults_old faults_new place → LastLine order held asked_old asked_new faults_old faults_new (Read place)
+  much : {place : ℕ} → IsTooMuch held (names_or_none order) place → LastLine order held asked_old asked_new faults_old faults_new (Much place)

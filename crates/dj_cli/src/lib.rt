@@ -7,8 +7,11 @@ mod answer;
 mod code;
 mod loading;
 mod report;
+mod program;
 mod status;
+mod telling;
 mod words;
 
 pub use status::{Status, UsageKind};
+pub use program::run;
 pub use words::{Order, WordsFault, read_words};

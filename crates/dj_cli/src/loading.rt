@@ -1,11 +1,12 @@
 //! The files of an order, loaded by name.
 
-ghost use Rattle.std.specs.Prelude.{◌≡◌, ◌≤◌, ◌++◌, length, map, Some, IfSome, IfOk, OnOk, IfErr};
+ghost use Rattle.std.specs.Prelude.{◌≡◌, ◌≤◌, ◌<◌, ◌++◌, length, map, Some, IfSome, IfOk, OnOk, IfErr};
 ghost use Rattle.std.specs.Option.{option_map};
 ghost use Rattle.std.specs.String.{string_bytes};
-ghost use Rattle.dj_outer.specs.Loads.{file_named};
-ghost use Rattle.dj_cli.specs.Program.{ReadFails, IsTooMuch, AsksFront};
-ghost use Rattle.dj_cli.specs.Loading.{contents_of, Stopped};
+ghost use Rattle.dj_outer.specs.Count.{Rose};
+ghost use Rattle.dj_outer.specs.Files.{file_named, HasFile, with_asked};
+ghost use Rattle.dj_cli.specs.Program.{ReadFails, IsTooMuch, AsksFront, most_bytes};
+ghost use Rattle.dj_cli.specs.Loading.{contents_of, Stopped, StoppedAt};
 
 use dj_outer::{Files, LoadFault, Loaded};
 use std::alloc::{AllocError, AllocFailed, Global};
@@ -34,6 +35,29 @@ impl<T: Drop> From<AllocFailed<T>> for LoadStop {
     }
 }
 
+/// The bytes of the file of this name, which stands at this place.
+fn load_one<F: Files>(
+    alloc: Global,
+    files: &mut F,
+    name: &str,
+    place: u32,
+) -> Result<Vec<u8>, LoadStop>
+    ensures loaded { IfOk result (λ bytes. HasFile (F.held files.old) name.now (λ file. file ≡ bytes.items)) }
+    ensures asked { OnOk result (F.asked files.new ≡ with_asked (F.asked files.old) name.now) }
+    ensures stopped { IfErr result (λ stop. StoppedAt place stop (Rose (F.faults files.old) (F.faults files.new)) (HasFile (F.held files.old) name.now (λ file. most_bytes < length file)) (F.asked files.new ≡ with_asked (F.asked files.old) name.now)) }
+
+    // What the call leaves.
+    ensures kept { F.held files.new ≡ F.held files.old }
+    ensures never_falls { F.faults files.old ≤ F.faults files.new }
+{
+    match files.load(alloc, name, MOST_BYTES) {
+        Ok(Loaded::Whole(bytes)) => Ok(bytes),
+        Ok(Loaded::Over) => Err(LoadStop::Over(place)),
+        Err(LoadFault::Failed) => Err(LoadStop::Fault(place)),
+        Err(LoadFault::Memory(error)) => Err(LoadStop::Memory(error)),
+    }
+}
+
 /// The bytes of the files of these names, in order.
 pub fn load_files<F: Files>(
     alloc: Global,
@@ -53,12 +77,8 @@ pub fn load_files<F: Files>(
     let mut contents = Vec::new(alloc);
     let mut place: u32 = 0;
     for name in named {
-        match files.load(alloc, name.as_str(), MOST_BYTES) {
-            Ok(Loaded::Whole(bytes)) => contents.push(bytes)?,
-            Ok(Loaded::Over) => return Err(LoadStop::Over(place)),
-            Err(LoadFault::Failed) => return Err(LoadStop::Fault(place)),
-            Err(LoadFault::Memory(error)) => return Err(LoadStop::Memory(error)),
-        }
+        let bytes = load_one(alloc, files, name.as_str(), place)?;
+        contents.push(bytes)?;
         place += 1;
     }
     Ok(contents)

@@ -2,7 +2,7 @@ use Rattle.std.proofs.Common.{◌≡◌, ◌≤◌, ◌++◌, map, take, length,
 use Rattle.std.specs.Prelude.{IfSome}
 use Rattle.std.specs.Option.{option_map}
 use Rattle.std.specs.String.{string_bytes}
-use Rattle.dj_outer.specs.Loads.{file_named}
+use Rattle.dj_outer.specs.Files.{file_named}
 use Rattle.dj_cli.specs.Loading.{contents_of}
 use Rattle.dj_cli.proofs.loading.load_files.Given as goal
 
