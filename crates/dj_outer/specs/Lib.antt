@@ -1,4 +1,4 @@
--- What the public contracts rest on: the count of faults, the two traits, and what each implementation shows.
+-- What the public contracts rest on: the count, the two traits, and what implementations show.
 pub mod Count
 pub mod Files
 pub mod Sink

@@ -8,7 +8,7 @@ use Rattle.dj_outer.specs.declared.files.LoadFault.TheVariants.{Failed, Memory}
 use Rattle.dj_outer.specs.Count.{next_count}
 use Rattle.dj_outer.specs.Files.{file_named}
 
--- the files with their names, the numbers of the calls that fail, the next call's number, the names asked, the faults
+-- `failing` has the numbers of the calls that fail, `calls` is the next call's; `asked` is oldest first
 pub record FilesState : Type 0 where
   pub held : List (List ℕ × List ℕ)
   pub failing : List ℕ

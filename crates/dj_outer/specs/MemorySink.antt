@@ -3,7 +3,7 @@ use Rattle.std.specs.Prelude.{◌⊎◌, ◌+◌, ◌<◌, ◌++◌, ℕ, List, 
 use Rattle.dj_outer.specs.declared.files.Failed.{Failed}
 use Rattle.dj_outer.specs.Count.{next_count}
 
--- how many bytes it takes in all, those taken, the numbers of the calls that fail, the next call's number, the faults
+-- `room` is how many bytes it takes in all; `failing` and `calls` are as for files
 pub record SinkState : Type 0 where
   pub room : ℕ
   pub taken : List ℕ

@@ -80,7 +80,8 @@ pub(crate) fn read_within<R: Read>(
     buffer: &mut [u8],
 ) -> Result<Loaded, LoadFault>
     requires { 0 < length buffer.old }
-    ensures whole { IfWhole result (λ bytes. IfSome (R.remaining reader.old) (λ left. left ≡ bytes)) }
+    ensures whole { IfWhole result
+        (λ bytes. IfSome (R.remaining reader.old) (λ left. left ≡ bytes)) }
     ensures within { IfWhole result (λ bytes. length bytes ≤ limit) }
     ensures over { OnOver result (IfSome (R.remaining reader.old) (λ left. limit < length left)) }
 {

@@ -59,15 +59,19 @@ pub trait Files {
 
     /// Loads the file of this name, if it has at most `limit` bytes.
     fn load(&mut self, alloc: Global, name: &str, limit: usize) -> Result<Loaded, LoadFault>
-        ensures whole { IfWhole result (λ bytes. HasFile (held self.old) name.now (λ file. file ≡ bytes)) }
+        ensures whole { IfWhole result
+            (λ bytes. HasFile (held self.old) name.now (λ file. file ≡ bytes)) }
         ensures within { IfWhole result (λ bytes. length bytes ≤ limit) }
-        ensures over { OnOver result (HasFile (held self.old) name.now (λ file. limit < length file)) }
+        ensures over { OnOver result
+            (HasFile (held self.old) name.now (λ file. limit < length file)) }
         ensures failed { OnFailed result (Rose (faults self.old) (faults self.new)) }
 
         // What the call leaves.
         ensures never_falls { faults self.old ≤ faults self.new }
         ensures kept { held self.new ≡ held self.old }
-        ensures asked { UnlessMemory result (asked self.new ≡ with_asked (asked self.old) name.now) }
+        ensures asked { UnlessMemory result
+            (asked self.new ≡ with_asked (asked self.old) name.now) }
         ensures asked_at_most { OnMemory result
-            ((asked self.new ≡ asked self.old) ⊎ (asked self.new ≡ with_asked (asked self.old) name.now)) };
+            ((asked self.new ≡ asked self.old)
+            ⊎ (asked self.new ≡ with_asked (asked self.old) name.now)) };
 }

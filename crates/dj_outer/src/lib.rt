@@ -1,6 +1,6 @@
 //! The outside as two traits: files by name, and a sink of bytes, each with a count of faults.
 //! Stands on the kit alone; the real files and streams are the trusted edge, with a test each.
-//! The layers above read through `Files::load` and write through `Sink::put`, and name no implementation.
+//! The layers above use `Files::load` and `Sink::put`, and name no implementation.
 #![tactic(auto)]
 
 mod count;

@@ -1,7 +1,7 @@
 //! Files in memory, which tell what they hold and what they were asked.
-ghost use Rattle.std.specs.Prelude.{◌≡◌, ◌≤◌, ◌<◌, ◌↔◌, [], Err, Some, length, map, string_bytes, IfOk, IfNone, IfSome, IsNone, IsSomeAnd};
+ghost use Rattle.std.specs.Prelude.{◌≡◌, ◌≤◌, ◌↔◌, [], Err, Some, map, string_bytes, IfOk, IfNone, IfSome, IsNone, IsSomeAnd};
 ghost use Rattle.std.specs.Option.{option_copied};
-ghost use Rattle.dj_outer.specs.Files.{IfWhole, OnOver, UnlessMemory, file_named};
+ghost use Rattle.dj_outer.specs.Files.{UnlessMemory, file_named};
 ghost use Rattle.dj_outer.specs.MemoryFiles.{FilesState, Gives, LoadFails, after_load, told_files};
 
 use crate::count::raise;
@@ -61,8 +61,10 @@ impl Files for MemoryFiles {
     ghost faults = { λ files. files.faults };
 
     fn load(&mut self, alloc: Global, name: &str, limit: usize) -> Result<Loaded, LoadFault>
-        ensures loaded { IfOk result (λ loaded. IsSomeAnd (file_named self.old.held name.now) (Gives loaded limit)) }
-        ensures failed { UnlessMemory result ((result ≡ Err LoadFault.Failed) ↔ LoadFails self.old name.now) }
+        ensures loaded { IfOk result
+            (λ loaded. IsSomeAnd (file_named self.old.held name.now) (Gives loaded limit)) }
+        ensures failed { UnlessMemory result
+            ((result ≡ Err LoadFault.Failed) ↔ LoadFails self.old name.now) }
         ensures after { self.new ≡ after_load self.old name.now result }
         ensures never_falls { self.old.faults ≤ self.new.faults }
     {
@@ -88,9 +90,11 @@ fn load_from(
     name: &str,
     limit: usize,
 ) -> Result<Option<Loaded>, AllocError>
-    ensures missing { IfOk result (λ found. IfNone found (IsNone (file_named (told_files files.now) name.now))) }
+    ensures missing { IfOk result
+        (λ found. IfNone found (IsNone (file_named (told_files files.now) name.now))) }
     ensures loaded { IfOk result
-        (λ found. IfSome found (λ loaded. IsSomeAnd (file_named (told_files files.now) name.now) (Gives loaded limit))) }
+        (λ found. IfSome found
+        (λ loaded. IsSomeAnd (file_named (told_files files.now) name.now) (Gives loaded limit))) }
 {
     let Some(bytes) = bytes_of(files, name) else {
         return Ok(None);

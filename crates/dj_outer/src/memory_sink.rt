@@ -33,7 +33,8 @@ impl Model for MemorySink {
       faults = sink.faults;
     } };
 
-    ghost invariant = { λ sink. (vec_len sink.taken ≤ sink.room) × (sink.room ≤ vec_capacity sink.taken) };
+    ghost invariant = { λ sink.
+        (vec_len sink.taken ≤ sink.room) × (sink.room ≤ vec_capacity sink.taken) };
 }
 
 impl MemorySink {

@@ -1,6 +1,7 @@
 //! A sink over a writer of the system: the trusted edge, which counts faults and tells nothing else.
-ghost use Rattle.std.specs.Prelude.{◌≡◌, OnOk, OnErr};
+ghost use Rattle.std.specs.Prelude.{◌≡◌, ◌≤◌, OnOk, OnErr};
 ghost use Rattle.std.specs.Io.KnownBytes.{Appends};
+ghost use Rattle.dj_outer.specs.Count.{Rose};
 ghost use Rattle.dj_outer.specs.Sink.{AppendsFront};
 
 use crate::count::raise;
@@ -29,10 +30,7 @@ impl<W> StreamSink<W> {
 }
 
 impl<W: Write> Sink for StreamSink<W> {
-    ghost use Rattle.std.specs.Prelude.{◌≤◌, None, OnOk, OnErr};
-    ghost use Rattle.std.specs.Io.KnownBytes.{Appends};
-    ghost use Rattle.dj_outer.specs.Count.{Rose};
-    ghost use Rattle.dj_outer.specs.Sink.{AppendsFront};
+    ghost use Rattle.std.specs.Prelude.{None};
     ghost use Rattle.dj_outer.specs.StreamSink.{writer_of, stream_faults};
 
     ghost taken = { λ _. None };
@@ -40,8 +38,10 @@ impl<W: Write> Sink for StreamSink<W> {
     ghost faults = { λ sink. sink.faults };
 
     fn put(&mut self, piece: &[u8]) -> Result<(), Failed>
-        ensures ok { OnOk result (Appends (W.contents (writer_of self.old)) (W.contents (writer_of self.new)) piece.now) }
-        ensures prefix { OnErr result (AppendsFront (W.contents (writer_of self.old)) (W.contents (writer_of self.new)) piece.now) }
+        ensures ok { OnOk result
+            (Appends (W.contents (writer_of self.old)) (W.contents (writer_of self.new)) piece.now) }
+        ensures prefix { OnErr result (AppendsFront (W.contents (writer_of self.old))
+            (W.contents (writer_of self.new)) piece.now) }
         ensures failed { OnErr result (Rose (stream_faults self.old) (stream_faults self.new)) }
         ensures never_falls { stream_faults self.old ≤ stream_faults self.new }
     {
@@ -55,7 +55,8 @@ impl<W: Write> Sink for StreamSink<W> {
 
 fn write_whole<W: Write>(writer: &mut W, piece: &[u8]) -> Result<(), Failed>
     ensures ok { OnOk result (Appends (W.contents writer.old) (W.contents writer.new) piece.now) }
-    ensures prefix { OnErr result (AppendsFront (W.contents writer.old) (W.contents writer.new) piece.now) }
+    ensures prefix { OnErr result
+        (AppendsFront (W.contents writer.old) (W.contents writer.new) piece.now) }
 {
     let mut rest = piece;
     while !rest.is_empty() {
