@@ -17,7 +17,7 @@ use crate::loading::{LoadStop, load_files};
 use crate::report::{much_line, read_line, usage_line};
 use crate::status::Status;
 use crate::telling::{TellStop, tell_files};
-use crate::words::{Order, WordsFault, read_words};
+use crate::words::{WordsFault, read_words};
 use dj_outer::{Files, Sink};
 use std::alloc::{AllocError, Global};
 
@@ -135,7 +135,7 @@ pub fn run<F: Files, T: Sink, P: Sink>(
     ensures kept { F.held files.new ≡ F.held files.old }
 {
     match read_words(alloc, words) {
-        Ok(Order::Files { named }) => print_files(alloc, named.as_slice(), files, text, report),
+        Ok(order) => print_files(alloc, order.into_names().as_slice(), files, text, report),
         Err(WordsFault::Usage(kind)) => {
             let line = usage_line(alloc, kind)?;
             Ok(last_line(report, line.as_slice(), Status::Usage(kind)))

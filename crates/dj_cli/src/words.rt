@@ -14,6 +14,21 @@ pub enum Order {
     Files { named: Vec<String> },
 }
 
+impl Order {
+    ghost use Rattle.std.specs.Prelude.{◌≡◌, map};
+    ghost use Rattle.std.specs.String.{string_bytes};
+    ghost use Rattle.dj_cli.specs.Words.{names_of};
+
+    /// The names of the files to print.
+    pub fn into_names(self) -> Vec<String>
+        ensures names { map string_bytes result.items ≡ names_of self }
+    {
+        match self {
+            Order::Files { named } => named,
+        }
+    }
+}
+
 /// Why the words give no order.
 #[derive(Debug, Drop)]
 pub enum WordsFault {
