@@ -1,4 +1,3 @@
-pub mod StraightShows
 pub mod LoadingLemmas
 pub mod TellingLemmas
 pub mod RunLemmas

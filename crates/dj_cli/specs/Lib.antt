@@ -1,12 +1,4 @@
 -- What the public contracts rest on, in reading order.
-pub mod Values
-pub mod Fits
-pub mod Machine
-pub mod Outcomes
-pub mod Operators
-pub mod Meaning
-pub mod SameShows
-pub mod Straight
 pub mod Status
 pub mod Words
 pub mod Report

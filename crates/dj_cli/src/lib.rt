@@ -4,7 +4,6 @@
 #![tactic(auto)]
 
 mod answer;
-mod code;
 mod loading;
 mod report;
 mod program;

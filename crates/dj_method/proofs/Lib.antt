@@ -1,0 +1,5 @@
+pub mod CodeLemmas
+pub mod StraightStacks
+pub mod StraightBuilt
+pub mod StraightShows
+pub mod StraightLaws

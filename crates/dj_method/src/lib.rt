@@ -1,0 +1,14 @@
+//! One method: what its code means, what a body means, and the body of a straight method with the proof that both show the same.
+//! It stands on `dj_names` and `dj_syntax`; its definitions are those of values, the machine and the source.
+//! The layer above uses `straight_body`, whose clause gives the expression that straight code returns, or where it breaks.
+#![tactic(auto)]
+
+mod code;
+mod opcodes;
+mod straight;
+
+pub use code::{Calc, Code, Constant, Instruction, Kind};
+pub use straight::{Rebuilt, straight_body};
+
+#[cfg(test)]
+mod tests;

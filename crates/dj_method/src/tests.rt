@@ -1,0 +1,3 @@
+//! Tests, by theme.
+
+mod straight;
