@@ -5,15 +5,20 @@
 
 mod class_name;
 mod descriptor;
+mod descriptors;
+mod fault;
 mod header;
 mod identifiers;
 mod members;
 mod static_type;
 mod types;
 mod units;
+mod unread;
 
 pub use class_name::{ClassName, copy_names};
 pub use descriptor::{Descriptor, copy_result, copy_types};
+pub use descriptors::read_descriptor;
+pub use fault::NameFault;
 pub use header::{Header, Headers};
 pub use identifiers::{is_identifier, spells_identifier};
 pub use members::{ClassMembers, Constant, Field, Member, Members, MethodHead};
