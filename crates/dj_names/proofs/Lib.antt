@@ -1,3 +1,4 @@
+pub mod Utf8Lemmas
 pub mod DescriptorLemmas
 pub mod RestLemmas
 pub mod TypeLemmas

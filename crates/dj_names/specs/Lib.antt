@@ -2,6 +2,7 @@
 pub mod Types
 pub mod ClassNames
 pub mod Descriptors
+pub mod Utf8
 pub mod Faults
 pub mod Identifiers
 pub mod Headers

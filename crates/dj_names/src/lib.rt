@@ -14,6 +14,7 @@ mod static_type;
 mod types;
 mod units;
 mod unread;
+mod utf8;
 
 pub use class_name::{ClassName, copy_names};
 pub use descriptor::{Descriptor, copy_result, copy_types};
@@ -26,3 +27,4 @@ pub use sqlite_items::{Boxed, Items};
 pub use static_type::StaticType;
 pub use types::JType;
 pub use units::Units;
+pub use utf8::{read_units, write_units};
