@@ -1,3 +1,5 @@
+pub mod AssignableLemmas
+pub mod PathLemmas
 pub mod Utf8Lemmas
 pub mod DescriptorLemmas
 pub mod RestLemmas

@@ -1,6 +1,6 @@
 -- The spelling of a unit begins no other, so bytes spell one list of units or none.
-use Rattle.std.proofs.Common.{◌≡◌, ◌≢◌, ℕ, zero, suc, ◌+◌, ◌-◌, ◌*◌, ◌/◌, ◌%◌, ◌<◌, ◌≤◌, ◌⊎◌, List, [], ◌∷◌, ◌++◌, length, take, drop, Bool, true, false, nat_lt, if◌then◌else◌, Option, Some, None, All, flat_map, refl, sym, ap, subst, inl, inr, ◌∙◌, arith}
-use Rattle.std.proofs.lemmas.List.{append_assoc, append-nil, take-append-drop, length-take, length-drop}
+use Rattle.std.proofs.Common.{◌≡◌, ◌≢◌, ℕ, ◌+◌, ◌-◌, ◌*◌, ◌/◌, ◌%◌, ◌<◌, ◌≤◌, ◌⊎◌, List, [], ◌∷◌, ◌++◌, length, take, drop, true, false, nat_lt, if◌then◌else◌, Option, Some, None, All, refl, sym, ap, subst, inl, inr, ◌∙◌, arith}
+use Rattle.std.proofs.lemmas.List.{append_assoc, append-nil, take-append-drop, length-drop}
 use Rattle.std.proofs.Math.Seq.{take-add}
 use Rattle.std.proofs.lemmas.Bool.{cases_lt}
 use Rattle.std.proofs.lemmas.List.Concat.{flat_map-append}
@@ -60,20 +60,20 @@ decode-three unit rest =
 
 sizes : (unit : ℕ) → (unit ≡ 0) ⊎ ((1 ≤ unit) × (unit ≤ 127)) ⊎ ((128 ≤ unit) × (unit ≤ 2047)) ⊎ (2048 ≤ unit)
 sizes unit = elim (cases_lt unit 1) [
-    inl none ↦ inl (omega arith)
+  | inl none ↦ inl (omega arith)
   | inr some ↦ elim (cases_lt unit 128) [
-      inl one ↦ inr (inl (some, omega arith))
+    | inl one ↦ inr (inl (some, omega arith))
     | inr more ↦ elim (cases_lt unit 2048) [ inl two_bytes ↦ inr (inr (inl (more, omega arith))) | inr many ↦ inr (inr (inr many)) ]
-    ]
   ]
+]
 
 decode-encode : (unit : ℕ) (rest : List ℕ) → decode (encode unit ++ rest) ≡ Some (unit, rest)
 decode-encode unit rest = elim (sizes unit) [
-    inl none ↦ subst (λ u. decode (encode u ++ rest) ≡ Some (u, rest)) (sym none) refl
+  | inl none ↦ subst (λ u. decode (encode u ++ rest) ≡ Some (u, rest)) (sym none) refl
   | inr (inl one) ↦ ap (λ bytes. decode (bytes ++ rest)) (encode-one unit one.0 one.1) ∙ decode-one unit rest one.1
   | inr (inr (inl some)) ↦ ap (λ bytes. decode (bytes ++ rest)) (encode-two unit some.0 some.1) ∙ decode-two unit rest some.1
   | inr (inr (inr many)) ↦ ap (λ bytes. decode (bytes ++ rest)) (encode-three unit many) ∙ decode-three unit rest
-  ]
+]
 
 pub one_unit : (unit other : ℕ) (rest more : List ℕ) → encode unit ++ rest ≡ encode other ++ more → (unit ≡ other) × (rest ≡ more)
 one_unit unit other rest more same =
@@ -103,14 +103,18 @@ no_units [] (unit ∷ units) left some wrong are same = wrong unit (spell_units 
 no_units (first ∷ before) [] left some wrong are same = no_bytes first (spell_units before ++ left) (sym (append_assoc (encode first) (spell_units before) left) ∙ sym same)
 no_units (first ∷ before) (unit ∷ units) left some wrong are same =
     no_units before units left some wrong (All-tail IsUnit unit units are)
-      (one_unit unit first (spell_units units) (spell_units before ++ left) (same ∙ append_assoc (encode first) (spell_units before) left)).1
+    (one_unit unit first (spell_units units) (spell_units before ++ left) (same ∙ append_assoc (encode first) (spell_units before) left)).1
 
 -- where the bytes go on with no unit
 pub no_units_at : (bytes before : List ℕ) (at : ℕ) → All IsUnit before → spell_units before ≡ take at bytes → at < length bytes → ((unit : ℕ) (rest : List ℕ) → IsUnit unit → encode unit ++ rest ≢ drop at bytes) → AreNoUnits bytes at
 no_units_at bytes before at are spelled within wrong = record {
   unspelled = λ units units_are same. no_units before units (drop at bytes)
-    (λ none. absurd (omega (arith, ap length none, length-drop at bytes))) wrong units_are (same ∙ sym (take-append-drop at bytes) ∙ ap (λ u. u ++ drop at bytes) (sym spelled));
-  before = before; before_are = are; spelled = spelled; within = within; wrong = wrong
+      (λ none. absurd (omega (arith, ap length none, length-drop at bytes))) wrong units_are (same ∙ sym (take-append-drop at bytes) ∙ ap (λ u. u ++ drop at bytes) (sym spelled));
+  before = before;
+  before_are = are;
+  spelled = spelled;
+  within = within;
+  wrong = wrong;
 }
 
 -- the spelling of one unit more

@@ -5,6 +5,7 @@ pub mod Descriptors
 pub mod Utf8
 pub mod Faults
 pub mod Identifiers
+pub mod Shown
 pub mod Headers
 pub mod Assignable
 -- What the functions inside the crate promise each other.

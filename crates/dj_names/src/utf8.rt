@@ -81,7 +81,11 @@ fn two_byte_unit(first: u8, second: u8) -> Option<u16>
         return None;
     }
     let unit = u16::from(first - 0xc0) * 64 + u16::from(second - 0x80);
-    if unit != 0 && unit < 0x80 { None } else { Some(unit) }
+    if unit != 0 && unit < 0x80 {
+        None
+    } else {
+        Some(unit)
+    }
 }
 
 /// The unit that is spelled by these three bytes.
@@ -95,6 +99,8 @@ fn three_byte_unit(first: u8, second: u8, third: u8) -> Option<u16>
     if second < 0x80 || second > 0xbf || third < 0x80 || third > 0xbf {
         return None;
     }
-    let unit = u16::from(first - 0xe0) * 4096 + u16::from(second - 0x80) * 64 + u16::from(third - 0x80);
+    let unit = u16::from(first - 0xe0) * 4096
+        + u16::from(second - 0x80) * 64
+        + u16::from(third - 0x80);
     if unit < 0x800 { None } else { Some(unit) }
 }
