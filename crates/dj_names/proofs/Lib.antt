@@ -1,2 +1,11 @@
+pub mod AssignableLemmas
+pub mod PathLemmas
+pub mod Utf8Lemmas
+pub mod DescriptorLemmas
+pub mod RestLemmas
+pub mod TypeLemmas
+pub mod Stopping
+pub mod ClassNameLemmas
+pub mod OneSpelling
 pub mod IdentifiersLemmas
 pub mod HeadersLemmas

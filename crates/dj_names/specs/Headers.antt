@@ -1,5 +1,5 @@
 -- Which classes stand above which, by a list of their headers (JVMS 4.1; JLS 8.1.4, 8.1.5, 9.1.3).
-use Rattle.std.specs.Prelude.{◌≡◌, ◌≢◌, ℕ, ◌⊎◌, List, [], ◌∷◌, map, Some, Any, AllPairs, Contains, IsBitSet}
+use Rattle.std.specs.Prelude.{◌≡◌, ◌≢◌, ℕ, ◌⊎◌, List, [], ◌∷◌, map, Some, Any, AllPairs, Contains, IsBitSet, ◌≤◌, length}
 use Rattle.dj_names.specs.declared.header.Header.{Header}
 
 -- the units of a class's name, with `/` between its segments
@@ -46,3 +46,9 @@ pub record IsSubclass (headers : List Header) (lower upper : Name) : Type 0 wher
 pub record Implements (headers : List Header) (lower upper : Name) : Type 0 where
   pub path : List Name
   pub is_path : IsPath (HasParent headers) lower path upper
+
+-- a path from `lower` to `upper` has at most so many steps
+pub record HasShortPath (Step : Name → Name → Type 0) (most : ℕ) (lower upper : Name) : Type 0 where
+  pub path : List Name
+  pub is_path : IsPath Step lower path upper
+  pub short : length path ≤ most

@@ -1,5 +1,12 @@
 -- What the public contracts rest on, in reading order.
 pub mod Types
+pub mod ClassNames
+pub mod Descriptors
+pub mod Utf8
+pub mod Faults
 pub mod Identifiers
+pub mod Shown
 pub mod Headers
 pub mod Assignable
+-- What the functions inside the crate promise each other.
+pub mod Reading

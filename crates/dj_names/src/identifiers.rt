@@ -108,14 +108,14 @@ fn is_reserved(units: &[u16]) -> bool
 }
 
 /// Whether the units are one of these words.
-fn is_among(units: &[u16], words: &[&str]) -> bool
+pub fn is_among(units: &[u16], words: &[&str]) -> bool
     ensures among { IsTrue result ↔ Contains (map (λ word. word.now) words.now) units.now }
 {
     words.iter().any(|word| is_word(units, word))
 }
 
 /// Whether the units are this word.
-fn is_word(units: &[u16], word: &str) -> bool
+pub fn is_word(units: &[u16], word: &str) -> bool
     ensures word { IsTrue result ↔ (word.now ≡ units.now) }
 {
     let bytes = word.as_bytes();

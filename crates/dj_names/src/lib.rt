@@ -3,21 +3,36 @@
 //! The layers above use the types, and `copy` of each, which answers an equal value.
 #![tactic(auto)]
 
+mod assignable;
 mod class_name;
+mod compared;
 mod descriptor;
+mod descriptors;
+mod fault;
 mod header;
 mod identifiers;
 mod members;
+mod relations;
+mod shown;
 mod static_type;
+#[cfg(test)]
+mod tests;
 mod types;
 mod units;
+mod unread;
+mod utf8;
 
+pub use assignable::{Hierarchy, is_above_arrays, is_class_assignable};
 pub use class_name::{ClassName, copy_names};
 pub use descriptor::{Descriptor, copy_result, copy_types};
+pub use descriptors::read_descriptor;
+pub use fault::NameFault;
 pub use header::{Header, Headers};
 pub use identifiers::{is_identifier, spells_identifier};
 pub use members::{ClassMembers, Constant, Field, Member, Members, MethodHead};
+pub use relations::paths_can_be_cut;
 pub use sqlite_items::{Boxed, Items};
 pub use static_type::StaticType;
 pub use types::JType;
 pub use units::Units;
+pub use utf8::{read_units, write_units};

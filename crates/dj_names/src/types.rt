@@ -1,6 +1,8 @@
 //! The types of fields, parameters and results (JVMS 4.3.2).
 
 ghost use Rattle.std.specs.Prelude.{◌≡◌, IfOk};
+ghost use Rattle.dj_names.specs.Types.{view_type};
+ghost use Rattle.dj_names.specs.Descriptors.{words};
 
 use crate::class_name::ClassName;
 use sqlite_items::Boxed;
@@ -22,6 +24,23 @@ pub enum JType {
 }
 
 impl JType {
+    /// How many words a parameter of the type takes.
+    pub fn words(&self) -> u8
+        ensures words { result ≡ words (view_type self.now) }
+    {
+        match self {
+            JType::Long | JType::Double => 2,
+            JType::Boolean => 1,
+            JType::Byte => 1,
+            JType::Char => 1,
+            JType::Short => 1,
+            JType::Int => 1,
+            JType::Float => 1,
+            JType::Class(_) => 1,
+            JType::Array(_) => 1,
+        }
+    }
+
     /// An equal type.
     pub fn copy(&self, alloc: Global) -> Result<JType, AllocError>
         ensures equal { IfOk result (λ copy. copy ≡ self.now) }

@@ -1,0 +1,22 @@
+-- Which fault the readers of names answer, and at which place.
+use Rattle.std.specs.Prelude.{◌≡◌, ℕ, ◌-◌, ◌^◌, min, List}
+use Rattle.dj_names.specs.declared.fault.NameFault.{NameFault}
+use Rattle.dj_names.specs.declared.fault.NameFault.TheVariants.{BadDescriptor, BadUnits, Memory}
+use Rattle.dj_names.specs.Descriptors.{IsNoDescriptor}
+use Rattle.dj_names.specs.Utf8.{AreNoUnits}
+
+-- how a place is given: one above 4,294,967,295 as that number
+abbrev pub place : ℕ → ℕ
+place at = min at (2 ^ 32 - 1)
+
+-- the fault of units that are no descriptor, if memory isn't out
+abbrev pub IsDescriptorFault : List ℕ → NameFault → Type 0
+IsDescriptorFault units (BadDescriptor shown) = (at : ℕ) × (shown ≡ place at) × IsNoDescriptor units at
+IsDescriptorFault units (BadUnits shown) = ⊥
+IsDescriptorFault units (Memory error) = Unit {0}
+
+-- the fault of bytes that spell no units, if memory isn't out
+abbrev pub IsUnitsFault : List ℕ → NameFault → Type 0
+IsUnitsFault bytes (BadDescriptor shown) = ⊥
+IsUnitsFault bytes (BadUnits shown) = (at : ℕ) × (shown ≡ place at) × AreNoUnits bytes at
+IsUnitsFault bytes (Memory error) = Unit {0}
