@@ -98,7 +98,7 @@ abbrev pub stack_height : List Formula → ℕ
 stack_height [] = 0
 stack_height (top ∷ below) = max (stack_height below) (length below + height top)
 
--- formulas of parameters that there are, with 64 levels of operators
+-- formulas over parameters that there are, each of 64 levels at most
 abbrev pub AreFormulas : ℕ → List Formula → Type 0
 AreFormulas parameters [] = Unit {0}
 AreFormulas parameters (top ∷ below) = UsesParameters parameters top × (depth top ≤ 64) × AreFormulas parameters below
