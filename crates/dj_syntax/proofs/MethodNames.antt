@@ -1,0 +1,60 @@
+-- Names of methods and the parts of qualified names: what follows from their definitions.
+use Rattle.std.proofs.Common.{◌≡◌, ◌≢◌, ℕ, zero, suc, ◌<◌, ◌==◌, true, false, Bool, cond, List, [], ◌∷◌, ◌++◌, length, replicate, Some, All, refl, ap, ◌∙◌, arith, ne_eqb}
+use Rattle.std.specs.List.{AllByRecursion, slice_split, onto_first}
+use Rattle.std.proofs.lemmas.List.Splits.{slice_split_none, length-slice_split}
+use Rattle.dj_names.specs.Types.{Int, Method}
+use Rattle.dj_names.specs.Identifiers.{IsIdentifier}
+use Rattle.dj_syntax.specs.UnitText.{in_front, segments, is_constructor, is_initialiser}
+use Rattle.dj_syntax.specs.WellFormed.{IsNamed, IsMethodDescriptor}
+
+-- an identifier names no constructor and no static initialiser
+pub identifier_is_no_method_keyword : (name : List ℕ) → IsIdentifier name → (is_constructor name ≡ false) × (is_initialiser name ≡ false)
+identifier_is_no_method_keyword [] identifier = absurd identifier.chars
+identifier_is_no_method_keyword (first ∷ rest) identifier =
+    let letter = identifier.chars.0 in
+    let other : (first == 60) ≡ false = ne_eqb first 60 (λ e. omega (arith, letter)) in
+    (rw other, rw other)
+
+-- ---- descriptors
+
+ints_are_named : (n : ℕ) → AllByRecursion IsNamed (replicate n Int)
+ints_are_named zero = tt
+ints_are_named (suc n) = (tt, ints_are_named n)
+
+-- ints to an int
+pub IsMethodDescriptor-ints : (n : ℕ) → IsMethodDescriptor (Method (replicate n Int) (Some Int))
+IsMethodDescriptor-ints n = (ints_are_named n, tt)
+
+-- ---- the parts of a name
+
+in_front-is : (unit : ℕ) (parts : List (List ℕ)) → in_front unit parts ≡ onto_first unit parts
+in_front-is unit [] = refl
+in_front-is unit (first ∷ rest) = refl
+
+-- the parts between the slashes are those that `split` gives
+pub segments-is : (name : List ℕ) → segments name ≡ slice_split (λ unit. unit == 47) name
+segments-is [] = refl
+segments-is (unit ∷ rest) =
+    rw (segments-is rest, in_front-is unit (slice_split (λ other. other == 47) rest))
+
+-- a name without a slash is one part
+pub segments-plain : (name : List ℕ) → All (λ unit. unit ≢ 47) name → segments name ≡ name ∷ []
+segments-plain name plain =
+    segments-is name ∙ slice_split_none (λ unit. unit == 47) name (λ k d l. ne_eqb _ 47 (plain k d l))
+
+some_segment : (name : List ℕ) → 0 < length (segments name)
+some_segment name = omega (arith, ap length (segments-is name), length-slice_split (λ unit. unit == 47) name)
+
+in_front-append : (unit : ℕ) (parts : List (List ℕ)) (last : List ℕ) → 0 < length parts → in_front unit (parts ++ last ∷ []) ≡ in_front unit parts ++ last ∷ []
+in_front-append unit [] last some = absurd (omega arith)
+in_front-append unit (first ∷ rest) last some = refl
+
+-- a part more behind a slash
+pub segments-append : (front last : List ℕ) → All (λ unit. unit ≢ 47) last → segments (front ++ 47 ∷ last) ≡ segments front ++ last ∷ []
+segments-append [] last plain = ap (λ parts. [] ∷ parts) (segments-plain last plain)
+segments-append (unit ∷ rest) last plain =
+    rw (segments-append rest last plain) (go (unit == 47))
+  where
+    go : (slash : Bool) → cond slash ([] ∷ (segments rest ++ last ∷ [])) (in_front unit (segments rest ++ last ∷ [])) ≡ cond slash ([] ∷ segments rest) (in_front unit (segments rest)) ++ last ∷ []
+    go true = refl
+    go false = in_front-append unit (segments rest) last (some_segment rest)
