@@ -2,6 +2,8 @@
 pub mod Status
 pub mod Words
 pub mod Report
+pub mod ClassText
+pub mod StraightMethod
 pub mod Answer
 pub mod AnswerView
 pub mod Program

@@ -8,6 +8,7 @@ mod loading;
 mod report;
 mod program;
 mod status;
+mod straight_method;
 mod telling;
 mod words;
 
