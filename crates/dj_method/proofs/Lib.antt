@@ -3,3 +3,4 @@ pub mod StraightStacks
 pub mod StraightBuilt
 pub mod StraightShows
 pub mod StraightLaws
+pub mod FittingFormulas

@@ -133,3 +133,8 @@ pub record IsReturned (parameters max_stack : ℕ) (bytes : List ℕ) (exp : Exp
 abbrev pub IsRebuilt : ℕ → ℕ → List ℕ → Rebuilt → Type 0
 IsRebuilt parameters max_stack bytes (Tree exp) = IsReturned parameters max_stack bytes (view_exp exp)
 IsRebuilt parameters max_stack bytes (Breaks pc) = BreaksAt parameters max_stack bytes pc
+
+-- a fact about the expression that was rebuilt, where there is one
+abbrev pub IfTree : Rebuilt → (Exp → Type 0) → Type 0
+IfTree (Tree exp) property = property (view_exp exp)
+IfTree (Breaks pc) property = Unit {0}

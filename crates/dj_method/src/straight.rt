@@ -1,11 +1,12 @@
 //! Straight methods: code that is one expression in postfix form and `ireturn`, rebuilt as that expression.
 
 ghost use Rattle.std.specs.Prelude.{◌≡◌, ◌+◌, ◌<◌, ◌^◌, ◌↔◌, ℕ, List, reverse, length, Some, IfOk, IsTrue};
+ghost use Rattle.dj_syntax.specs.WellFormed.{IsWellFormedExp};
 ghost use Rattle.dj_method.specs.Rebuilding.{IsNode, IsNodeOf, AreNodes, pushed, joined, calculated, advanced, WentOn, IsClosed};
 ghost use Rattle.dj_method.specs.declared.code.Kind.TheVariants as kind;
 ghost use Rattle.dj_method.specs.declared.code.Instruction.TheVariants.{Return};
 ghost use Rattle.dj_method.specs.Opcodes.{IsReadableFront};
-ghost use Rattle.dj_method.specs.Straight.{Formula, operator, Number, Parameter, IsRebuilt};
+ghost use Rattle.dj_method.specs.Straight.{Formula, operator, Number, Parameter, IsRebuilt, IfTree};
 
 use crate::code::{Calc, Constant, Instruction, Kind};
 use crate::opcodes::{Decoded, read_instructions};
@@ -177,6 +178,7 @@ pub fn straight_body(
 ) -> Result<Rebuilt, AllocError>
     requires short { length code.now < 2 ^ 32 }
     ensures ok { IfOk result (IsRebuilt parameters max_stack code.now) }
+    ensures fits { IfOk result (λ rebuilt. IfTree rebuilt (λ exp. parameters < 2 ^ 32 → IsWellFormedExp exp)) }
 {
     let decoded = read_instructions(alloc, code)?;
     rebuild(alloc, &decoded, code, max_stack, parameters)
