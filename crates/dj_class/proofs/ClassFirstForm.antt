@@ -1,5 +1,5 @@
 -- Class files of the first form, told from their layout and the class that it describes.
-use Rattle.std.proofs.Common.{◌≡◌, ℕ, List, Option, Some, None, IfOk, IfSome, IfNone, Result, Ok, Err, subst}
+use Rattle.std.proofs.Common.{ℕ, List, Option, Some, None, IfOk, IfSome, IfNone, Result, Ok, Err, subst}
 use Rattle.std.specs.declared.alloc.AllocError.{AllocError}
 use Rattle.dj_layout.specs.Whole.{IsWhole}
 use Rattle.dj_layout.proofs.Laws.{whole_unique}

@@ -1,5 +1,5 @@
 -- A class file reads in one way.
-use Rattle.std.proofs.Common.{◌≡◌, ◌⊎◌, ◌≢◌, ℕ, zero, suc, ◌+◌, ◌-◌, ◌<◌, ◌≤◌, ◌==◌, List, [], ◌∷◌, ◌++◌, All, length, take, drop, get_or, refl, sym, ap, ◌∙◌, append_assoc, arith, length-append, inl, inr}
+use Rattle.std.proofs.Common.{◌≡◌, ℕ, ◌-◌, ◌≤◌, ◌==◌, List, [], ◌∷◌, ◌++◌, length, take, drop, sym, ap, ◌∙◌, arith, length-append, inl, inr}
 use Rattle.std.specs.List.{AllByRecursion}
 use Rattle.std.proofs.lemmas.List.{take_at, drop_at}
 use Rattle.std.proofs.lemmas.List.Elements.{recursion_from_All}
@@ -9,14 +9,14 @@ use Rattle.dj_layout.specs.declared.fault.Stop.TheVariants as stop
 use Rattle.dj_layout.specs.Layout.{Layout, Stops}
 use Rattle.dj_layout.specs.Whole.{IsWhole, FirstFault}
 use Rattle.dj_layout.proofs.Laws.{whole_has_no_fault}
-use Rattle.dj_layout.specs.Parts.{number, run, exactly, headed, times, tested, viewed, choice}
+use Rattle.dj_layout.specs.Parts.{times}
 use Rattle.dj_layout.specs.Exact.{IsExact}
 use Rattle.dj_layout.proofs.PartsAreExact.{exact-number, exact-run, exact-exactly, exact-headed, exact-times, exact-tested, exact-viewed, exact-choice}
 use Rattle.dj_class.specs.declared.class.raw.BrokenKind.{BrokenKind}
 use Rattle.dj_class.specs.declared.class.raw.BrokenKind.TheVariants as kind
 use Rattle.dj_class.specs.declared.class.raw.Entry.TheVariants as entry_variants
 use Rattle.dj_class.specs.CodeContent.{handler, code, content}
-use Rattle.dj_class.specs.ClassFile.{IsUnit, HasWrongUnit, units, text, u2, counted, units_of, name_of, entry, entry_of, pool, sized, attribute, member, major, front, own, lists, lists_of, raw_of, magic, body, file}
+use Rattle.dj_class.specs.ClassFile.{IsUnit, units, text, u2, counted, units_of, name_of, entry, entry_of, pool, sized, attribute, member, major, front, own, lists, lists_of, raw_of, magic, body, file}
 
 -- the wrong byte of a list that begins with units lies behind them
 unit_or_wrong : (xs before : List ℕ) (rest : List ℕ) (wrong : ℕ) (others : List ℕ) → AllByRecursion IsUnit xs → xs ++ rest ≡ before ++ wrong ∷ others → ¬ IsUnit wrong → length xs ≤ length before

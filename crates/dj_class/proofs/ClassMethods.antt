@@ -1,5 +1,5 @@
 -- The methods of a class of the first form, told from their parts.
-use Rattle.std.proofs.Common.{◌≡◌, ◌⊎◌, ◌↔◌, ℕ, zero, suc, ◌+◌, ◌<◌, ◌≤◌, List, [], ◌∷◌, ◌++◌, length, get_or, take, map, Option, Some, None, IsSome, IsNone, IfSome, IfNone, IsSomeAnd, IsBitSet, codes, refl, sym, ap, subst, ◌∙◌, arith, inl, inr}
+use Rattle.std.proofs.Common.{◌≡◌, ◌⊎◌, ℕ, zero, suc, ◌+◌, ◌<◌, ◌≤◌, List, [], ◌∷◌, ◌++◌, length, get_or, take, map, Option, Some, None, IsSome, IfSome, IfNone, IsSomeAnd, codes, refl, sym, subst, arith, inl, inr}
 use Rattle.std.specs.List.{AllZip}
 use Rattle.std.specs.Option.{option_to_list}
 use Rattle.std.proofs.lemmas.Bool.{false≢true}
@@ -7,7 +7,7 @@ use Rattle.std.proofs.lemmas.List.{take_more, take_all, map_push}
 use Rattle.dj_names.specs.Types.{Descriptor}
 use Rattle.dj_class.specs.declared.class.raw.Entry.{Entry}
 use Rattle.dj_class.specs.declared.class.raw.Member.{Member}
-use Rattle.dj_class.specs.ResolvedClass.{MethodOf, HasOneAccess, IsWithoutBody, SpellsMethod, DescribesMethod, contents, text_at}
+use Rattle.dj_class.specs.ResolvedClass.{MethodOf, HasOneAccess, IsWithoutBody, SpellsMethod, contents, text_at}
 use Rattle.dj_class.specs.FirstParts.{IsFirstMethod, HasParts}
 
 static_access : (flags : ℕ) → (flags ≡ 0x8) ⊎ (flags ≡ 0x9) → HasOneAccess flags

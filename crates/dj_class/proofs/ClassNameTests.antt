@@ -1,10 +1,10 @@
 -- What tests of the segments of a name say.
-use Rattle.std.proofs.Common.{◌≡◌, ◌≢◌, ◌⊎◌, ◌↔◌, ℕ, ◌+◌, ◌<◌, ◌≤◌, Bool, true, false, cond, nat_eq, nat_lt, ◌&&◌, Option, Some, None, position, take, subst, List, [], ◌∷◌, ◌++◌, length, get_or, IsTrue, IfOk, IsSomeAnd, Result, Ok, Err, All, Contains, codes, refl, sym, ap, ◌∙◌, arith}
+use Rattle.std.proofs.Common.{◌≡◌, ◌≢◌, ◌↔◌, ℕ, ◌<◌, ◌≤◌, Bool, true, false, cond, nat_eq, nat_lt, Some, None, position, take, subst, List, [], ◌∷◌, ◌++◌, length, get_or, IsTrue, IfOk, IsSomeAnd, Result, Ok, Err, All, Contains, codes, refl, sym, ap, ◌∙◌, arith}
 use Rattle.std.specs.Bool.{MatchBool}
-use Rattle.std.specs.List.{AllByRecursion, AllWithin, HoldsAt, slice_split, join_with_byte}
+use Rattle.std.specs.List.{AllByRecursion, AllWithin, HoldsAt, join_with_byte}
 use Rattle.std.proofs.lemmas.Bool.{false≢true}
 use Rattle.std.proofs.lemmas.Bool.Decides.{nat_tests}
-use Rattle.std.proofs.lemmas.List.Elements.{All-from_all_within, recursion_from_All, All-from_recursion}
+use Rattle.std.proofs.lemmas.List.Elements.{All-from_all_within, recursion_from_All}
 use Rattle.std.proofs.lemmas.List.Splits.{length-slice_split, join_with_byte-slice_split, slice_split_at, slice_split_none}
 use Rattle.dj_names.specs.ClassNames.{IsUnqualifiedName, joined, IsClassName}
 use Rattle.std.specs.List.{position_or_len, before_first}

@@ -1,5 +1,5 @@
 -- The class of the first form, told from its head, its pool and its methods.
-use Rattle.std.proofs.Common.{◌≡◌, ◌⊎◌, ℕ, List, [], ◌∷◌, Option, Some, None, IsSome, All, codes, refl, sym, subst, ◌∙◌, inl, inr}
+use Rattle.std.proofs.Common.{◌≡◌, ◌⊎◌, ℕ, List, [], ◌∷◌, Option, Some, IsSome, All, codes, refl, subst, inl, inr}
 use Rattle.std.specs.List.{AllZip, AllByRecursion}
 use Rattle.std.proofs.lemmas.List.Elements.{recursion_from_All, All-from_recursion}
 use Rattle.dj_names.specs.Headers.{Name}
@@ -7,7 +7,7 @@ use Rattle.dj_names.specs.Assignable.{object_name}
 use Rattle.dj_class.specs.declared.class.raw.Entry.{Entry}
 use Rattle.dj_class.specs.declared.class.raw.Member.{Member}
 use Rattle.dj_class.specs.declared.class.raw.RawFile.{RawFile}
-use Rattle.dj_class.specs.ResolvedClass.{MethodOf, ClassOf, HasClassFlags, IsClassAt, IsSuperclassAt, IsSoundEntry, Describes, DescribesMethod, contents}
+use Rattle.dj_class.specs.ResolvedClass.{MethodOf, ClassOf, HasClassFlags, IsClassAt, IsSuperclassAt, IsSoundEntry, DescribesMethod, contents}
 use Rattle.dj_class.specs.FirstParts.{IsFirstMethod, HasHead, IsFirstClass}
 
 plain_flags : (flags : ℕ) → (flags ≡ 0x20) ⊎ (flags ≡ 0x21) → HasClassFlags flags

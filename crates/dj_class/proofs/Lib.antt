@@ -5,3 +5,4 @@ pub mod ClassNameTests
 pub mod ClassMethods
 pub mod ClassResolved
 pub mod ClassFirstForm
+pub mod ClassIsUnique

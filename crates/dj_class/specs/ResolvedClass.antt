@@ -1,5 +1,5 @@
 -- The class that a class file describes: what its indices stand for (JVMS 4.1, 4.4, 4.6, 4.7), of a file without fields.
-use Rattle.std.specs.Prelude.{◌≡◌, ◌≢◌, ◌⊎◌, ◌↔◌, ℕ, List, [], ◌∷◌, map, filter, slice_get, Bool, false, Option, Some, None, IsNone, IsSome, IsSomeAnd, All, IsBitSet, codes, ⊤}
+use Rattle.std.specs.Prelude.{◌≡◌, ◌⊎◌, ◌↔◌, ℕ, List, [], ◌∷◌, map, filter, slice_get, Bool, false, Option, Some, None, IsNone, IsSome, IsSomeAnd, All, IsBitSet, codes, ⊤}
 use Rattle.std.specs.List.{AllZip}
 use Rattle.std.specs.Option.{option_and_then, option_to_list}
 use Rattle.std.specs.Str.{bytes_eq}

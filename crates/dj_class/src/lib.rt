@@ -5,4 +5,7 @@
 
 mod class;
 
-pub use class::{Attribute, ClassFile, CodeContent, Entry, Handler, Method, has_attribute, read_class, read_content};
+pub use class::{
+    Attribute, ClassFile, CodeContent, Entry, Handler, Method, has_attribute, read_class,
+    read_content,
+};

@@ -53,11 +53,11 @@ pub stops_all : (stop : LoadStop) (held : Option (List (List ℕ × List ℕ))) 
 stops_all (Fault place) held asked_old before asked_new names i first old new name lt here more was le at =
     let asked = asked_more asked_old before asked_new names i name more was at.2 in
     subst (λ here. ReadFails names asked_old asked_new first new here × AsksFront asked_old asked_new names) (sym at.0)
-      (record { due = lt; rose = rose_from first old new le at.1; asked = asked }, (i + 1, asked))
+    (record { due = lt; rose = rose_from first old new le at.1; asked = asked }, (i + 1, asked))
 stops_all (Over place) held asked_old before asked_new names i first old new name lt here more was le at =
     let asked = asked_more asked_old before asked_new names i name more was at.2 in
     subst (λ here. IsTooMuch held names here × AsksFront asked_old asked_new names) (sym at.0)
-      (record { due = lt; over = over held at.1 }, (i + 1, asked))
+    (record { due = lt; over = over held at.1 }, (i + 1, asked))
   where
     over : (held : Option (List (List ℕ × List ℕ))) → HasFile held name (λ file. most_bytes < length file) → IfSome held (λ files. IsSomeAnd (slice_get names i) (λ name. IsSomeAnd (file_named files name) (λ bytes. most_bytes < length bytes)))
     over None has = has

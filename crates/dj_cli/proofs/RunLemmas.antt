@@ -40,15 +40,17 @@ pub front_of_output : (held : Option (List (List ℕ × List ℕ))) (names conte
     → IfSome held (λ files. map (file_named files) names ≡ map Some contents) → WroteFrontOfSome (first_answers names contents) text_old text_new report_old report_new
     → IfSome held (λ files. WroteFrontOfSome (first_output files names) text_old text_new report_old report_new)
 front_of_output None names contents text_old text_new report_old report_new loaded front = loaded
-front_of_output (Some files) names contents text_old text_new report_old report_new loaded front =
-    (front.0, record {
-      text = front.1.text;
-      report = front.1.report;
-      answer = record {
-        contents = take front.0 contents;
-        loaded = sym (take-map (file_named files) front.0 names) ∙ ap (take front.0) loaded ∙ take-map Some front.0 contents;
-        answers = front.1.answer;
-      };
-      text_taken = front.1.text_taken;
-      report_taken = front.1.report_taken;
-    })
+front_of_output (Some files) names contents text_old text_new report_old report_new loaded front = (
+  front.0,
+  record {
+    text = front.1.text;
+    report = front.1.report;
+    answer = record {
+      contents = take front.0 contents;
+      loaded = sym (take-map (file_named files) front.0 names) ∙ ap (take front.0) loaded ∙ take-map Some front.0 contents;
+      answers = front.1.answer;
+    };
+    text_taken = front.1.text_taken;
+    report_taken = front.1.report_taken;
+  },
+)

@@ -38,10 +38,16 @@ AnswersEach-more [] [] name bytes text report first lines each one =
     (first, [], lines, [], one, (refl, refl), ap (λ t. t ++ first) each.0 ∙ sym (append-nil first), ap (λ r. r ++ lines) each.1 ∙ sym (append-nil lines))
 AnswersEach-more [] (other ∷ contents) name bytes text report first lines each one = absurd each
 AnswersEach-more (other ∷ names) [] name bytes text report first lines each one = absurd each
-AnswersEach-more (other ∷ names) (content ∷ contents) name bytes text report first lines each one =
-    (each.0, each.1 ++ first, each.2, each.3 ++ lines, each.4, AnswersEach-more names contents name bytes each.1 each.3 first lines each.5 one,
-      ap (λ t. t ++ first) each.6 ∙ append_assoc each.0 each.1 first,
-      ap (λ r. r ++ lines) each.7 ∙ append_assoc each.2 each.3 lines)
+AnswersEach-more (other ∷ names) (content ∷ contents) name bytes text report first lines each one = (
+  each.0,
+  each.1 ++ first,
+  each.2,
+  each.3 ++ lines,
+  each.4,
+  AnswersEach-more names contents name bytes each.1 each.3 first lines each.5 one,
+  ap (λ t. t ++ first) each.6 ∙ append_assoc each.0 each.1 first,
+  ap (λ r. r ++ lines) each.7 ∙ append_assoc each.2 each.3 lines,
+)
 
 -- whether the report of either has a line
 refused_either : (before one : Bool) (report lines : List ℕ) → MatchBool before (report ≢ []) (report ≡ []) → MatchBool one (lines ≢ []) (lines ≡ []) → MatchBool (before || one) (report ++ lines ≢ []) (report ++ lines ≡ [])
@@ -74,14 +80,16 @@ pub front_more : (names contents : List (List ℕ)) (i : ℕ) (name bytes : List
     → WroteAll (AnswersEach (take i names) (take i contents)) text_old text_mid report_old report_mid refused
     → WroteFront (IsAnswer name bytes) text_mid text_new report_mid report_new
     → WroteFrontOfSome (first_answers names contents) text_old text_new report_old report_new
-front_more names contents i name bytes text_old text_mid text_new report_old report_mid report_new refused more_names more_contents before this =
-    (i + 1, record {
-      text = before.text ++ this.text;
-      report = before.report ++ this.report;
-      answer = rw (more_names, more_contents) (AnswersEach-more (take i names) (take i contents) name bytes before.text before.report this.text this.report before.answer this.answer);
-      text_taken = front_then text_old text_mid text_new before.text this.text before.text_taken this.text_taken;
-      report_taken = front_then report_old report_mid report_new before.report this.report before.report_taken this.report_taken;
-    })
+front_more names contents i name bytes text_old text_mid text_new report_old report_mid report_new refused more_names more_contents before this = (
+  i + 1,
+  record {
+    text = before.text ++ this.text;
+    report = before.report ++ this.report;
+    answer = rw (more_names, more_contents) (AnswersEach-more (take i names) (take i contents) name bytes before.text before.report this.text this.report before.answer this.answer);
+    text_taken = front_then text_old text_mid text_new before.text this.text before.text_taken this.text_taken;
+    report_taken = front_then report_old report_mid report_new before.report this.report before.report_taken this.report_taken;
+  },
+)
 
 -- nothing told yet
 pub told_nothing : (names contents : List (List ℕ)) (text report : Option (List ℕ)) → WroteAll (AnswersEach (take 0 names) (take 0 contents)) text text report report false

@@ -1,5 +1,5 @@
 -- The unit of a class, given the bodies of its methods (JVMS 4.1, 4.6; JLS 7.4, 8.1, 8.4).
-use Rattle.std.specs.Prelude.{◌≡◌, ℕ, List, [], ◌∷◌, ◌++◌, Option, Some, None, false, bit_and, codes}
+use Rattle.std.specs.Prelude.{◌≡◌, ◌≢◌, ◌<◌, All, length, slice_index, ℕ, List, [], ◌∷◌, ◌++◌, Option, Some, None, false, bit_and, codes}
 use Rattle.dj_class.specs.ResolvedClass.{ClassOf, MethodOf}
 use Rattle.dj_syntax.specs.Trees.{Body, MethodText, CompilationUnit}
 use Rattle.dj_syntax.specs.UnitText.{method_bits}
@@ -35,3 +35,14 @@ pub record IsClassText (class : ClassOf) (bodies : List (Option Body)) (unit : C
 -- the line that names the file in which a class's text belongs
 abbrev pub file_line : List ℕ → List ℕ
 file_line class = codes "// " ++ class ++ codes ".java" ++ 10 ∷ []
+
+-- a class's name is a package's name, where there is one, a slash, and a simple name, which has no slash
+abbrev pub IsSplit : Option (List ℕ) → List ℕ → List ℕ → Type 0
+IsSplit None simple name = (name ≡ simple) × All (λ unit. unit ≢ 47) simple
+IsSplit (Some in_package) simple name = (name ≡ in_package ++ 47 ∷ simple) × All (λ unit. unit ≢ 47) simple
+
+-- a slash stands at this place, and none behind it
+pub record IsLastSlash (at : ℕ) (units : List ℕ) : Type 0 where
+  pub within : at < length units
+  pub here : slice_index units at ≡ 47
+  pub none_behind : (k : ℕ) → at < k → k < length units → slice_index units k ≢ 47

@@ -4,14 +4,15 @@
 #![tactic(auto)]
 
 mod answer;
+mod class_text;
 mod loading;
-mod report;
 mod program;
+mod report;
 mod status;
 mod straight_method;
 mod telling;
 mod words;
 
-pub use status::{Status, UsageKind};
 pub use program::run;
+pub use status::{Status, UsageKind};
 pub use words::{Order, WordsFault, read_words};

@@ -14,7 +14,11 @@ fn hex_digit(digit: u16) -> u8
     requires digit { digit < 16 }
     ensures digit { result ≡ hex_digit digit }
 {
-    if digit < 10 { 48 + digit as u8 } else { 87 + digit as u8 }
+    if digit < 10 {
+        48 + digit as u8
+    } else {
+        87 + digit as u8
+    }
 }
 
 /// Puts a unit: as it is where it is printable, no space and no backslash, else by its number.

@@ -1,8 +1,9 @@
 //! The body of a straight method.
 
-ghost use Rattle.std.specs.Prelude.{◌≡◌, ◌<◌, ◌^◌, ℕ, replicate, Some, IfOk, IfSome, IfNone, MatchBool, length};
+ghost use Rattle.std.specs.Prelude.{◌≡◌, ◌<◌, ◌^◌, ℕ, replicate, Some, IfOk, IfSome, IfNone, IsTrue, ◌↔◌, All, length};
+ghost use Rattle.std.specs.Option.{option_map};
 ghost use Rattle.dj_names.specs.Types as types;
-ghost use Rattle.dj_names.specs.Types.{view_descriptor, view_types};
+ghost use Rattle.dj_names.specs.Types.{view_descriptor, view_type, view_types};
 ghost use Rattle.dj_syntax.specs.Trees as trees;
 ghost use Rattle.dj_syntax.specs.Trees.{view_body, view_exp};
 ghost use Rattle.dj_syntax.specs.WellFormed.{IsWellFormedExp};
@@ -18,29 +19,53 @@ use std::alloc::{AllocError, Global};
 /// The flags that the text of a method in a class shows (JVMS 4.6).
 pub const METHOD_BITS: u16 = 0x053f;
 
+/// Whether a type is int.
+fn is_int(kind: &JType) -> bool
+    ensures int { IsTrue result ↔ (view_type kind.now ≡ types.Int) }
+{
+    matches!(kind, JType::Int)
+}
+
+/// Whether a result is int.
+fn is_int_result(kind: &Option<JType>) -> bool
+    ensures int { IsTrue result ↔ (option_map view_type kind.now ≡ Some types.Int) }
+{
+    match kind {
+        Some(kind) => is_int(kind),
+        None => false,
+    }
+}
+
 /// Whether all types are int.
 fn are_ints(parameters: &[JType]) -> bool
-    ensures ints { MatchBool result (view_types parameters.now ≡ replicate (length parameters.now) types.Int) ((count : ℕ) → view_types parameters.now ≡ replicate count types.Int → ⊥) }
+    ensures ints { IsTrue result ↔ All (λ kind. view_type kind ≡ types.Int) parameters.now }
 {
-    for kind in parameters {
-        if !matches!(kind, JType::Int) {
-            return false;
-        }
+    parameters.iter().all(is_int)
+}
+
+/// How many types there are, where all are int.
+fn int_count(parameters: &[JType]) -> Option<usize>
+    ensures some { IfSome result (λ count. view_types parameters.now ≡ replicate count types.Int) }
+    ensures none { IfNone result ((count : ℕ) → view_types parameters.now ≡ replicate count types.Int → ⊥) }
+{
+    if are_ints(parameters) {
+        Some(parameters.len())
+    } else {
+        None
     }
-    true
 }
 
 /// How many parameters a descriptor has, where all of them and the result are ints.
 fn int_parameters(descriptor: &Descriptor) -> Option<usize>
-    ensures ints { IfSome result (λ count. view_descriptor descriptor.now ≡ types.Method (replicate count types.Int) (Some types.Int)) }
-    ensures others { IfNone result ((count : ℕ) → view_descriptor descriptor.now ≡ types.Method (replicate count types.Int) (Some types.Int) → ⊥) }
+    ensures some { IfSome result (λ count. view_descriptor descriptor.now ≡ types.Method (replicate count types.Int) (Some types.Int)) }
+    ensures none { IfNone result ((count : ℕ) → view_descriptor descriptor.now ≡ types.Method (replicate count types.Int) (Some types.Int) → ⊥) }
 {
     match descriptor {
-        Descriptor::Method {
-            parameters,
-            result: Some(JType::Int),
-        } if are_ints(parameters.as_slice()) => Some(parameters.len()),
-        Descriptor::Method { .. } | Descriptor::Field(_) => None,
+        Descriptor::Field(_) => None,
+        Descriptor::Method { parameters, result } if is_int_result(result) => {
+            int_count(parameters.as_slice())
+        }
+        Descriptor::Method { .. } => None,
     }
 }
 
@@ -62,7 +87,12 @@ fn content_expression(
     {
         return Ok(None);
     }
-    match straight_body(alloc, content.code.as_slice(), content.max_stack, parameters)? {
+    match straight_body(
+        alloc,
+        content.code.as_slice(),
+        content.max_stack,
+        parameters,
+    )? {
         Rebuilt::Tree(exp) => Ok(Some(exp)),
         Rebuilt::Breaks(_) => Ok(None),
     }

@@ -118,7 +118,13 @@ pub fn tell_files<T: Sink, P: Sink>(
 {
     let mut refused = false;
     for place in 0..named.len() {
-        let one = tell_file(alloc, named[place].as_str(), contents[place].as_slice(), text, report)?;
+        let one = tell_file(
+            alloc,
+            named[place].as_str(),
+            contents[place].as_slice(),
+            text,
+            report,
+        )?;
         refused |= one;
     }
     Ok(refused)

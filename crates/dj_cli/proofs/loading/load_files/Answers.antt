@@ -18,7 +18,7 @@ returns-in_err-bytes-clause-stopped g c =
     let before = c.loop-name.invariant in
     let stopped = c.in_err-bytes.ensures.stopped in
     rw (p.1, p.2)
-      (stops_all c.in_err-bytes.field-0.0 (g.F.Files.held c.args.files.now) (g.F.Files.asked c.args.files.now) (g.F.Files.asked c.loop-name.files) (g.F.Files.asked c.load_one.new.files) (map string_bytes named) i (g.F.Files.faults c.args.files.now) (g.F.Files.faults c.loop-name.files) (g.F.Files.faults c.load_one.new.files) (string_bytes c.name-item.result) inside_names here more before.asked before.falls (rw (before.place, c.as_str.ensures.value, before.kept) at stopped))
+    (stops_all c.in_err-bytes.field-0.0 (g.F.Files.held c.args.files.now) (g.F.Files.asked c.args.files.now) (g.F.Files.asked c.loop-name.files) (g.F.Files.asked c.load_one.new.files) (map string_bytes named) i (g.F.Files.faults c.args.files.now) (g.F.Files.faults c.loop-name.files) (g.F.Files.faults c.load_one.new.files) (string_bytes c.name-item.result) inside_names here more before.asked before.falls (rw (before.place, c.as_str.ensures.value, before.kept) at stopped))
 
 pub loop-name-preserved : goal.loop-name-preserved
 loop-name-preserved g c =

@@ -13,8 +13,8 @@ returns-in_ok-line-in-Err-Usage-clause-report_fault g c =
     let line = c.as_slice-in-Err-Usage.ensures.value ∙ c.in_ok-line-in-Err-Usage.ensures.line in
     let ends = rw line at c.last_line.ensures.ends in
     ends_report c.last_line.result (Usage c.in-Err-Usage.kind) _ _ _ tt
-      (λ cut. inr (lines.Usage c.in-Err-Usage.kind, usage order, record { text_kept = refl; report_taken = cut.1 }))
-      ends
+    (λ cut. inr (lines.Usage c.in-Err-Usage.kind, usage order, record { text_kept = refl; report_taken = cut.1 }))
+    ends
 
 pub returns-in-Ok-clause-text_fault : goal.returns-in-Ok-clause-text_fault
 returns-in-Ok-clause-text_fault g c =

@@ -1,4 +1,4 @@
-use Rattle.dj_class.proofs.ClassMethods.{first_from_parts, no_parts, no_descriptor}
+use Rattle.dj_class.proofs.ClassMethods.{no_parts}
 use Rattle.dj_class.proofs.class.methods.method_of.Goals as goal
 
 pub returns-in_default-clause-none : goal.returns-in_default-clause-none

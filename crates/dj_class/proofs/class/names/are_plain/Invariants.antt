@@ -1,4 +1,4 @@
-use Rattle.std.proofs.Common.{◌≢◌, All, take}
+use Rattle.std.proofs.Common.{All, take}
 use Rattle.dj_class.proofs.class.names.are_plain.Given as goal
 use Rattle.std.proofs.Common.{Contains, codes}
 

@@ -1,4 +1,4 @@
-use Rattle.std.proofs.Common.{◌≡◌, [], take}
+use Rattle.std.proofs.Common.{◌≡◌, take}
 use Rattle.std.specs.Option.{option_copied, option_to_list}
 use Rattle.dj_class.specs.ResolvedClass.{contents}
 use Rattle.dj_class.proofs.class.pool.only_content.Given as goal

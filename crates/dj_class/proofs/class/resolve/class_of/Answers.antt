@@ -1,4 +1,4 @@
-use Rattle.std.proofs.Common.{refl, map, sym, subst, ◌∙◌}
+use Rattle.std.proofs.Common.{map, subst}
 use Rattle.std.specs.List.{AllZip}
 use Rattle.std.proofs.Common.{List, All}
 use Rattle.dj_class.specs.declared.class.raw.Entry.{Entry}

@@ -1,0 +1,108 @@
+//! The unit of a class, and the line that names its file.
+
+ghost use Rattle.std.specs.Prelude.{◌≡◌, ◌≢◌, ◌<◌, ℕ, [], ◌∷◌, All, Some, IfOk, IfSome, IfNone, length, slice_index};
+ghost use Rattle.dj_syntax.specs.Trees.{view_body, view_unit};
+ghost use Rattle.dj_syntax.specs.WellFormed.{held_class};
+ghost use Rattle.dj_class.specs.FirstForm.{view_class, view_method};
+ghost use Rattle.dj_cli.specs.ClassText.{IsClassText, IsSplit, IsLastSlash, file_line};
+
+use crate::straight_method::METHOD_BITS;
+use dj_class::{ClassFile, Method};
+use dj_names::{ClassName, Items, Units, copy_names};
+use dj_syntax::{Body, MethodText, Unit};
+use std::alloc::{AllocError, Global};
+
+/// A class's name as a package, where it has one, and a simple name.
+#[derive(Debug, Drop)]
+struct SplitName {
+    package: Option<ClassName>,
+    simple: Units,
+}
+
+/// The place of the last slash.
+fn last_slash(units: &[u16]) -> Option<usize>
+    ensures some { IfSome result (λ at. IsLastSlash at units.now) }
+    ensures none { IfNone result ((k : ℕ) → k < length units.now → slice_index units.now k ≢ 47) }
+{
+    let mut last = None;
+    for (at, unit) in units.iter().enumerate() {
+        if *unit == 47 {
+            last = Some(at);
+        }
+    }
+    last
+}
+
+/// The package and the simple name of a class.
+fn split_name(alloc: Global, name: &ClassName) -> Result<SplitName, AllocError>
+    ensures split { IfOk result (λ split. IsSplit split.package split.simple name.now) }
+{
+    let units = name.as_slice();
+    match last_slash(units) {
+        Some(at) => Ok(SplitName {
+            package: Some(ClassName::new(Units::from_slice(alloc, &units[..at])?)),
+            simple: Units::from_slice(alloc, &units[at + 1..])?,
+        }),
+        None => Ok(SplitName {
+            package: None,
+            simple: Units::from_slice(alloc, units)?,
+        }),
+    }
+}
+
+/// The line that names the file in which a class's text belongs.
+pub fn file_line(alloc: Global, name: &ClassName) -> Result<Vec<u8>, AllocError>
+    requires ascii { All (λ unit. unit < 128) name.now }
+    ensures line { IfOk result (λ line. line.items ≡ file_line name.now) }
+{
+    let mut line = Vec::new(alloc);
+    line.extend_from_slice(b"// ")?;
+    for unit in name.as_slice() {
+        line.push(*unit as u8)?;
+    }
+    line.extend_from_slice(b".java\n")?;
+    Ok(line)
+}
+
+/// The unit of a class whose one method has this body.
+pub fn class_unit(
+    alloc: Global,
+    class: &ClassFile,
+    method: &Method,
+    body: Body,
+) -> Result<Unit, AllocError>
+    requires one { (view_class class.now).methods ≡ view_method method.now ∷ [] }
+    ensures text { IfOk result (λ unit. IsClassText (view_class class.now) (Some (view_body body) ∷ []) (view_unit unit)) }
+    ensures simple { IfOk result (λ unit. All (λ letter. letter ≢ 47) unit.name) }
+{
+    let name = split_name(alloc, &class.this_class)?;
+    let mut methods = Items::new(alloc);
+    methods.push(MethodText {
+        flags: method.flags & METHOD_BITS,
+        name: method.name.copy(alloc)?,
+        descriptor: method.descriptor.copy(alloc)?,
+        thrown: copy_names(alloc, method.thrown.as_slice())?,
+        body: Some(body),
+    })?;
+    Ok(Unit {
+        package: name.package,
+        flags: shown_flags(class.flags),
+        name: name.simple,
+        superclass: None,
+        interfaces: Items::new(alloc),
+        fields: Items::new(alloc),
+        helper: None,
+        methods,
+    })
+}
+
+/// The flags that the text of a class or interface shows or implies.
+fn shown_flags(flags: u16) -> u16
+    ensures held { result ≡ held_class flags }
+{
+    if flags & 0x0200 == 0 {
+        flags & 0x0411
+    } else {
+        flags & 0x0001 | 0x0600
+    }
+}
