@@ -54,16 +54,19 @@ tag_of entry_variants.Skip = 0
 tag_of (entry_variants.Utf8 units) = 1
 tag_of (entry_variants.Class name) = 7
 
+-- the characters of a text, none of any other entry
 abbrev pub units_of : Entry → List ℕ
 units_of entry_variants.Skip = []
 units_of (entry_variants.Utf8 units) = units
 units_of (entry_variants.Class name) = []
 
+-- the index that a class leads to, 0 of any other entry
 abbrev pub name_of : Entry → ℕ
 name_of entry_variants.Skip = 0
 name_of (entry_variants.Utf8 units) = 0
 name_of (entry_variants.Class name) = name
 
+-- the tags that a pool has by now: of a text, of a class
 abbrev pub is_tag : ℕ → Bool
 is_tag tag = (tag == 1) || (tag == 7)
 
@@ -107,6 +110,7 @@ member =
 abbrev pub is_major : ℕ → Bool
 is_major major = nat_le 50 major && nat_le major 52
 
+-- the major version, in two bytes
 abbrev pub major : Layout BrokenKind ℕ
 major = tested u2 is_major kind.Version
 
@@ -139,6 +143,7 @@ lists =
 abbrev pub magic : Layout BrokenKind ℕ
 magic = tested (number 4 kind.Short) (λ x. x == 3405691582) kind.Magic
 
+-- a file of these parts
 abbrev pub raw_of : ℕ × ℕ × List Entry → ℕ × ℕ × ℕ → Lists → RawFile
 raw_of front own lists = record {
   minor = front.0;
@@ -153,6 +158,7 @@ raw_of front own lists = record {
   attributes = lists.attributes;
 }
 
+-- the lists of a file
 abbrev pub lists_of : RawFile → Lists
 lists_of raw = record { interfaces = raw.interfaces; fields = raw.fields; methods = raw.methods; attributes = raw.attributes }
 

@@ -25,6 +25,7 @@ handler =
     headed (λ h. h.class) u2 (λ class.
     exactly (record { start = start; end = end; target = target; class = class })))))
 
+-- limits, code, exception table and attributes
 abbrev pub content : Layout BrokenKind CodeContent
 content =
     headed (λ c. c.max_stack) u2 (λ max_stack.

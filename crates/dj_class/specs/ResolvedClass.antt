@@ -44,11 +44,13 @@ pub record ClassOf : Type 0 where
   pub fields : List FieldOf
   pub methods : List MethodOf
 
+-- the characters of an entry, where it is a text
 abbrev pub units_at : Entry → Option (List ℕ)
 units_at entry.Skip = None
 units_at (entry.Utf8 units) = Some units
 units_at (entry.Class name) = None
 
+-- the index that an entry leads to, where it is a class
 abbrev pub index_at : Entry → Option ℕ
 index_at entry.Skip = None
 index_at (entry.Utf8 units) = None
@@ -85,6 +87,7 @@ IsSoundEntry pool (entry.Class name) = IsSomeAnd (text_at pool name) IsClassOrAr
 abbrev pub AreNamed : List Entry → List Attribute → Type 0
 AreNamed pool attributes = All (λ attribute. IsSome (text_at pool attribute.name)) attributes
 
+-- there are characters, and they are these
 abbrev pub is_text : List ℕ → Option (List ℕ) → Bool
 is_text name None = false
 is_text name (Some units) = bytes_eq units name
@@ -115,6 +118,7 @@ abbrev pub IsMethodDescriptor : Descriptor → Type 0
 IsMethodDescriptor (Field type) = ⊥
 IsMethodDescriptor (Method parameters result) = ⊤
 
+-- the characters spell a descriptor of a method, this one
 pub record SpellsMethod (units : List ℕ) (descriptor : Descriptor) : Type 0 where
   pub spells : Spells units descriptor
   pub of_method : IsMethodDescriptor descriptor

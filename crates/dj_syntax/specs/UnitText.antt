@@ -167,10 +167,11 @@ field_bits interface valued = if interface then 0x0008 else (if valued then 0x00
 abbrev pub method_bits : Bool → ℕ
 method_bits interface = if interface then 0x0008 else 0x053f
 
--- whether a method is a constructor, or a static initialiser (JVMS 2.9)
+-- whether a method is a constructor (JVMS 2.9)
 abbrev pub is_constructor : List ℕ → Bool
 is_constructor name = pointwise nat_eq name (codes "<init>")
 
+-- whether a method is a static initialiser (JVMS 2.9)
 abbrev pub is_initialiser : List ℕ → Bool
 is_initialiser name = pointwise nat_eq name (codes "<clinit>")
 
