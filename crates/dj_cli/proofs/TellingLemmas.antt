@@ -1,9 +1,10 @@
 -- Pieces taken one after another, and answers to files one after another.
-use Rattle.std.proofs.Common.{◌≡◌, ◌≢◌, ℕ, suc, zero, ◌+◌, ◌<◌, ◌≤◌, Bool, true, false, ◌||◌, List, [], ◌∷◌, ◌++◌, length, get_or, take, map, Option, Some, None, refl, sym, ap, ◌∙◌, subst, arith, append_assoc, inl, inr}
+use Rattle.std.proofs.Common.{◌≡◌, ◌≢◌, ℕ, suc, zero, ◌+◌, ◌<◌, ◌≤◌, Bool, true, false, not, ◌==◌, ◌||◌, List, [], ◌∷◌, ◌++◌, length, get_or, take, map, Option, Some, None, refl, sym, ap, ◌∙◌, subst, arith, append_assoc, inl, inr}
 use Rattle.std.specs.Prelude.{MatchBool}
 use Rattle.std.specs.Io.KnownBytes.{append_known}
 use Rattle.std.proofs.Math.Seq.{take-append-add, take-append_seam}
-use Rattle.std.proofs.lemmas.List.{append-nil, take_more}
+use Rattle.std.proofs.lemmas.List.{append-nil, nil_from_length, take_more}
+use Rattle.std.proofs.lemmas.Bool.Decides.{eqb_tells}
 use Rattle.dj_outer.specs.Sink.{TakesPrefix}
 use Rattle.dj_cli.specs.declared.telling.TellStop.{TellStop}
 use Rattle.dj_cli.specs.declared.telling.TellStop.TheVariants.{Text, Report, Memory}
@@ -58,6 +59,13 @@ refused_either true one report lines first second = nonempty report first
     nonempty : (report : List ℕ) → report ≢ [] → report ++ lines ≢ []
     nonempty [] not_empty = λ none. not_empty refl
     nonempty (byte ∷ rest) not_empty = λ none. absurd cc
+
+-- whether a file has lines
+pub refused_told : (lines : List ℕ) (none : Bool) → none ≡ (length lines == 0) → MatchBool (not none) (lines ≢ []) (lines ≡ [])
+refused_told lines none is =
+    elim (eqb_tells (length lines) 0)
+    [ inl w ↦ subst (λ b. MatchBool (not b) (lines ≢ []) (lines ≡ [])) (sym (is ∙ w.0)) (nil_from_length lines w.1)
+    | inr w ↦ subst (λ b. MatchBool (not b) (lines ≢ []) (lines ≡ [])) (sym (is ∙ w.0)) (λ nil. w.1 (ap length nil)) ]
 
 -- one more file told
 pub told_more : (names contents : List (List ℕ)) (i : ℕ) (name bytes : List ℕ) (text_old text_mid text_new report_old report_mid report_new : Option (List ℕ)) (refused one : Bool)

@@ -90,10 +90,10 @@ fn tell_file<T: Sink, P: Sink>(
     ensures report_falls { P.faults report.old ≤ P.faults report.new }
 {
     let answer = answer_file(alloc, path, bytes)?;
-    if put_printed(text, &answer.printed).is_err() {
+    if let Err(Failed) = put_printed(text, &answer.printed) {
         return Err(TellStop::Text);
     }
-    if put_lines(report, answer.report.as_slice()).is_err() {
+    if let Err(Failed) = put_lines(report, answer.report.as_slice()) {
         return Err(TellStop::Report);
     }
     Ok(!answer.report.is_empty())
