@@ -30,7 +30,13 @@ fn exit_code(rt: &HostRuntime) -> u8 {
     let mut files = DiskFiles::new(rt);
     let mut text = StreamSink::new(rt.stdout());
     let mut report = StreamSink::new(rt.stderr());
-    match run(rt.alloc(), words.as_slice(), &mut files, &mut text, &mut report) {
+    match run(
+        rt.alloc(),
+        words.as_slice(),
+        &mut files,
+        &mut text,
+        &mut report,
+    ) {
         Ok(status) => status.exit_code(),
         Err(_) => WANT_OF_MEMORY,
     }

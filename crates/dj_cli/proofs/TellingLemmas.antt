@@ -63,9 +63,10 @@ refused_either true one report lines first second = nonempty report first
 -- whether a file has lines
 pub refused_told : (lines : List ℕ) (none : Bool) → none ≡ (length lines == 0) → MatchBool (not none) (lines ≢ []) (lines ≡ [])
 refused_told lines none is =
-    elim (eqb_tells (length lines) 0)
-    [ inl w ↦ subst (λ b. MatchBool (not b) (lines ≢ []) (lines ≡ [])) (sym (is ∙ w.0)) (nil_from_length lines w.1)
-    | inr w ↦ subst (λ b. MatchBool (not b) (lines ≢ []) (lines ≡ [])) (sym (is ∙ w.0)) (λ nil. w.1 (ap length nil)) ]
+    elim (eqb_tells (length lines) 0) [
+      | inl w ↦ subst (λ b. MatchBool (not b) (lines ≢ []) (lines ≡ [])) (sym (is ∙ w.0)) (nil_from_length lines w.1)
+      | inr w ↦ subst (λ b. MatchBool (not b) (lines ≢ []) (lines ≡ [])) (sym (is ∙ w.0)) (λ nil. w.1 (ap length nil))
+    ]
 
 -- one more file told
 pub told_more : (names contents : List (List ℕ)) (i : ℕ) (name bytes : List ℕ) (text_old text_mid text_new report_old report_mid report_new : Option (List ℕ)) (refused one : Bool)

@@ -1,5 +1,5 @@
 //! The main job: class files in, Java source and a report out, with its meaning proved.
-//! It stands on `dj_names` and `dj_syntax`; each module is a layer that will be a crate of its own.
+//! It stands on the class reader, the rebuilding of straight methods and the printer, and on `dj_outer`.
 //! The program uses `run`, whose clauses are the headline.
 #![tactic(auto)]
 
@@ -11,6 +11,8 @@ mod report;
 mod status;
 mod straight_method;
 mod telling;
+#[cfg(test)]
+mod tests;
 mod words;
 
 pub use program::run;
