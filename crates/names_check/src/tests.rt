@@ -1,0 +1,35 @@
+//! Descriptors as Java's own classes are asked about them, with their parts.
+use crate::{answer, units_of};
+use dj_names::{Descriptor, JType, read_descriptor};
+use std::test::Fail;
+
+#[test]
+fn a_method_descriptor_has_its_parts(rt: HostRuntime) -> Result<(), Fail> {
+    let alloc = rt.alloc();
+    let bytes = [0, b'(', 0, b'[', 0, b'I', 0, b'J', 0, b')', 0, b'V'];
+    let Descriptor::Method {
+        parameters,
+        result: None,
+    } = read_descriptor(alloc, &units_of(alloc, &bytes)?)?
+    else {
+        return Err(Fail::new("no method without a result"));
+    };
+    let [JType::Array(element), JType::Long] = parameters.as_slice() else {
+        return Err(Fail::new("other parameters"));
+    };
+    assert!(rt; matches!(element.get(), JType::Int));
+    Ok(())
+}
+
+#[test]
+fn lines_are_answered(rt: HostRuntime) -> Result<(), Fail> {
+    let alloc = rt.alloc();
+    for (line, wanted) in [
+        ("d 0028005b0049004a00290056", "ok"),
+        ("d 00280056002900560000", "bad 1"),
+        ("u c181", "bad 0"),
+    ] {
+        assert_eq!(rt; answer(alloc, line)?.as_str(), wanted);
+    }
+    Ok(())
+}
