@@ -1,6 +1,6 @@
 //! Descriptors as Java's own classes are asked about them, with their parts.
 use crate::{answer, units_of};
-use dj_names::{Descriptor, JType, read_descriptor};
+use dj_names::{Descriptor, JType, Units, is_identifier, read_descriptor};
 use std::test::Fail;
 
 #[test]
@@ -30,6 +30,76 @@ fn lines_are_answered(rt: HostRuntime) -> Result<(), Fail> {
         ("u c181", "bad 0"),
     ] {
         assert_eq!(rt; answer(alloc, line)?.as_str(), wanted);
+    }
+    Ok(())
+}
+
+/// Every keyword and literal of the language that is no identifier.
+const RESERVED: &[&str] = &[
+    "abstract",
+    "assert",
+    "boolean",
+    "break",
+    "byte",
+    "case",
+    "catch",
+    "char",
+    "class",
+    "const",
+    "continue",
+    "default",
+    "do",
+    "double",
+    "else",
+    "enum",
+    "extends",
+    "final",
+    "finally",
+    "float",
+    "for",
+    "goto",
+    "if",
+    "implements",
+    "import",
+    "instanceof",
+    "int",
+    "interface",
+    "long",
+    "native",
+    "new",
+    "package",
+    "private",
+    "protected",
+    "public",
+    "return",
+    "short",
+    "static",
+    "strictfp",
+    "super",
+    "switch",
+    "synchronized",
+    "this",
+    "throw",
+    "throws",
+    "transient",
+    "try",
+    "void",
+    "volatile",
+    "while",
+    "true",
+    "false",
+    "null",
+];
+
+#[test]
+fn reserved_words_are_no_identifiers(rt: HostRuntime) -> Result<(), Fail> {
+    let alloc = rt.alloc();
+    for word in RESERVED {
+        let mut units = Vec::new(alloc);
+        for byte in word.as_bytes() {
+            units.push(u16::from(*byte))?;
+        }
+        assert!(rt; !is_identifier(&Units::from_vec(units)), "{word}");
     }
     Ok(())
 }
