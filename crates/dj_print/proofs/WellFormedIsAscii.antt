@@ -1,8 +1,7 @@
 -- A well formed unit is written as one byte a unit: an identifier is of letters and digits (JLS 3.8).
-use Rattle.std.proofs.Common.{◌≡◌, ℕ, ◌⊎◌, zero, suc, refl, ◌/◌, ◌%◌, ◌<◌, ◌==◌, if◌then◌else◌, Bool, true, false, List, [], ◌∷◌, ◌++◌, None, inl, inr, sym, subst, arith}
+use Rattle.std.proofs.Common.{◌≡◌, ℕ, ◌⊎◌, refl, ◌<◌, ◌==◌, if◌then◌else◌, Bool, true, false, List, [], ◌∷◌, ◌++◌, None, inl, inr, sym, subst, arith}
 use Rattle.std.specs.Prelude.{All, codes}
 use Rattle.std.specs.List.{AllByRecursion}
-use Rattle.std.specs.Fmt.{decimal, digits, digits_onto, digit_glyph}
 use Rattle.std.specs.Cmp.Lexicographic.{same_text}
 use Rattle.std.proofs.lemmas.Bool.{eqb-true}
 use Rattle.std.proofs.lemmas.Option.{IfSome_then}
@@ -11,7 +10,7 @@ use Rattle.dj_names.specs.Types.{JType, Boolean, Byte, Char, Short, Int, Long, F
 use Rattle.dj_names.specs.Identifiers.{IsLetter, IsDigit, IsIdentifierChars, IsIdentifier}
 use Rattle.dj_syntax.specs.Trees.{FieldText, MethodText, CompilationUnit}
 use Rattle.dj_syntax.specs.UnitText.{segments, in_front, is_constructor, is_initialiser, is_interface, result_of}
-use Rattle.dj_syntax.specs.WellFormed.{IsQualified, IsNamed, IsMethodDescriptor, IsHelperName, IsInitialiser, IsWellFormedField, IsWellFormedMethod, IsWellFormed, class_name, cond_type}
+use Rattle.dj_syntax.specs.WellFormed.{IsQualified, IsNamed, IsMethodDescriptor, IsDecimalNumeral, IsHelperName, IsInitialiser, IsWellFormedField, IsWellFormedMethod, IsWellFormed, class_name, cond_type}
 use Rattle.dj_print.specs.Printable.{IsAsciiName, IsAsciiType, IsAsciiDescriptor, IsAsciiField, IsAsciiMethod, IsAscii}
 
 -- ---- names
@@ -65,27 +64,19 @@ ascii_names names h = All-weaker IsQualified IsAsciiName ascii_qualified names (
 
 -- ---- numbers
 
-ascii_glyph : (digit : ℕ) → digit < 10 → digit_glyph false digit < 128
-ascii_glyph digit h = grind arith
+ascii_digits : (digits : List ℕ) → AllByRecursion IsDigit digits → AreAscii digits
+ascii_digits [] h = tt
+ascii_digits (digit ∷ digits) (here, there) = (omega arith, ascii_digits digits there)
 
-ascii_onto_choice : (stop : Bool) (last more : List ℕ) → AreAscii last → AreAscii more → AreAscii (if stop then last else more)
-ascii_onto_choice true last more h k = h
-ascii_onto_choice false last more h k = k
-
-ascii_onto : (k n : ℕ) (back : List ℕ) → AreAscii back → AreAscii (digits_onto k 10 false n back)
-ascii_onto zero n back h = h
-ascii_onto (suc k) n back h =
-    let glyph : digit_glyph false (n % 10) < 128 = ascii_glyph (n % 10) (omega arith) in
-    ascii_onto_choice (n / 10 == 0) (digit_glyph false (n % 10) ∷ back) (digits_onto k 10 false (n / 10) (digit_glyph false (n % 10) ∷ back)) (glyph, h) (ascii_onto k (n / 10) (digit_glyph false (n % 10) ∷ back) (glyph, h))
-
-ascii_decimal : (n : ℕ) → AreAscii (decimal n)
-unfolding digits
-ascii_decimal n = ascii_onto 64 n [] tt
+ascii_numeral : (digits : List ℕ) → IsDecimalNumeral digits → AreAscii digits
+ascii_numeral [] h = absurd h
+ascii_numeral (digit ∷ []) h = (omega arith, tt)
+ascii_numeral (first ∷ next ∷ rest) h = ascii_digits (first ∷ next ∷ rest) h.1
 
 ascii_helper : (name : List ℕ) → IsHelperName name → IsAsciiName name
-ascii_helper name (number, is) =
-    let d = ascii_decimal number in
-    let below : AreAscii (codes "rethrow$" ++ decimal number) = (omega arith, (omega arith, (omega arith, (omega arith, (omega arith, (omega arith, (omega arith, (omega arith, d)))))))) in
+ascii_helper name (digits, numeral, is) =
+    let d = ascii_numeral digits numeral in
+    let below : AreAscii (codes "rethrow$" ++ digits) = (omega arith, (omega arith, (omega arith, (omega arith, (omega arith, (omega arith, (omega arith, (omega arith, d)))))))) in
     ascii_name name (subst AreAscii (sym is) below)
 
 -- ---- types

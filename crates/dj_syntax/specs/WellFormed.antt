@@ -1,10 +1,9 @@
 -- Which trees have a text: names are names, and a head says what its members are (JLS 3.8, 8, 9).
 use Rattle.std.specs.Prelude.{◌≡◌, ◌≢◌, ℕ, ◌==◌, Bool, true, false, IsTrue, IsFalse, ◌&&◌, not, if◌then◌else◌, List, [], ◌∷◌, ◌++◌, Option, Some, None, IfSome, is_some, bit_and, bit_or, codes, ◌<◌, ◌^◌, FitsSigned}
 use Rattle.std.specs.Int.{w32}
-use Rattle.std.specs.Fmt.{decimal}
 use Rattle.std.specs.List.{AllByRecursion}
 use Rattle.dj_names.specs.Types.{JType, Boolean, Byte, Char, Short, Int, Long, Float, Double, Class, Array, Descriptor, Field, Method}
-use Rattle.dj_names.specs.Identifiers.{IsIdentifier}
+use Rattle.dj_names.specs.Identifiers.{IsDigit, IsIdentifier}
 use Rattle.dj_syntax.specs.Trees.{Exp, Variable, Binary, Stm, Block, Return, Stms, Empty, And, Body, FieldText, MethodText, CompilationUnit}
 use Rattle.dj_syntax.specs.Trees as trees
 use Rattle.dj_syntax.specs.UnitText.{segments, is_constructor, is_initialiser, is_interface, class_bits, field_bits, method_bits, result_of}
@@ -33,9 +32,15 @@ abbrev pub IsMethodDescriptor : Descriptor → Type 0
 IsMethodDescriptor (Field kind) = ⊥
 IsMethodDescriptor (Method parameters result) = AllByRecursion IsNamed parameters × IfSome result IsNamed
 
+-- a number in digits, none of them a zero in front of another digit (JLS 3.10.1)
+abbrev pub IsDecimalNumeral : List ℕ → Type 0
+IsDecimalNumeral [] = ⊥
+IsDecimalNumeral (digit ∷ []) = IsDigit digit
+IsDecimalNumeral (first ∷ next ∷ rest) = (first ≢ 48) × AllByRecursion IsDigit (first ∷ next ∷ rest)
+
 -- the name of a helper: `rethrow$` and a number in digits
 abbrev pub IsHelperName : List ℕ → Type 0
-IsHelperName name = (number : ℕ) × (name ≡ codes "rethrow$" ++ decimal number)
+IsHelperName name = (digits : List ℕ) × IsDecimalNumeral digits × (name ≡ codes "rethrow$" ++ digits)
 
 -- ---- flags
 
