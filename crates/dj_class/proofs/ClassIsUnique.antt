@@ -1,5 +1,5 @@
 -- Bytes are a class file of the first form by one pool and one list of methods alone.
-use Rattle.std.proofs.Common.{◌≡◌, ℕ, List, [], ◌∷◌, ◌++◌, Option, Some, None, refl, sym, ap, ◌∙◌, subst, All}
+use Rattle.std.proofs.Common.{◌≡◌, ℕ, List, [], ◌∷◌, Option, Some, None, refl, sym, ap, ◌∙◌, subst}
 use Rattle.std.specs.Prelude.{IsSomeAnd, codes}
 use Rattle.std.specs.List.{AllZip, AllByRecursion}
 use Rattle.std.specs.Option.{option_to_list}
@@ -13,7 +13,7 @@ use Rattle.dj_class.specs.declared.class.raw.Entry.{Entry}
 use Rattle.dj_class.specs.declared.class.raw.Member.{Member}
 use Rattle.dj_class.specs.declared.class.raw.RawFile.{RawFile}
 use Rattle.dj_class.specs.ClassFile.{file}
-use Rattle.dj_class.specs.ResolvedClass.{ClassOf, MethodOf, DescribesMethod, SpellsMethod, AreThrown, contents}
+use Rattle.dj_class.specs.ResolvedClass.{ClassOf, MethodOf, DescribesMethod, SpellsMethod, contents}
 use Rattle.dj_class.specs.FirstForm.{IsFirstForm}
 use Rattle.dj_class.proofs.ClassIsExact.{exact-file}
 

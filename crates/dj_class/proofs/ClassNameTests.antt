@@ -1,5 +1,5 @@
 -- What tests of the segments of a name say.
-use Rattle.std.proofs.Common.{◌≡◌, ◌≢◌, ◌↔◌, ℕ, ◌<◌, ◌≤◌, Bool, true, false, cond, nat_eq, nat_lt, Some, None, position, take, subst, List, [], ◌∷◌, ◌++◌, length, get_or, IsTrue, IfOk, IsSomeAnd, Result, Ok, Err, All, Contains, codes, refl, sym, ap, ◌∙◌, arith}
+use Rattle.std.proofs.Common.{◌≡◌, ◌≢◌, ◌↔◌, ℕ, ◌<◌, ◌≤◌, Bool, true, false, cond, nat_eq, nat_lt, Some, None, position, take, subst, List, [], ◌∷◌, ◌++◌, length, get_or, IsTrue, IfOk, Result, Ok, Err, All, Contains, codes, refl, sym, ap, ◌∙◌, arith}
 use Rattle.std.specs.Bool.{MatchBool}
 use Rattle.std.specs.List.{AllByRecursion, AllWithin, HoldsAt, join_with_byte}
 use Rattle.std.proofs.lemmas.Bool.{false≢true}
@@ -11,9 +11,8 @@ use Rattle.std.specs.List.{position_or_len, before_first}
 use Rattle.std.proofs.lemmas.List.{take_all}
 use Rattle.dj_names.specs.Types.{JType, Boolean, Byte, Char, Short, Int, Long, Float, Double, Class, Array, Descriptor, Field, Method}
 use Rattle.dj_names.specs.Descriptors.{spell_type, spell_descriptor, Spells}
-use Rattle.dj_class.specs.ResolvedClass.{IsArrayDescriptor, IsClassOrArray, text_at}
+use Rattle.dj_class.specs.ResolvedClass.{IsArrayDescriptor}
 use Rattle.std.specs.declared.alloc.AllocError.{AllocError}
-use Rattle.dj_class.specs.declared.class.raw.Entry.{Entry}
 use Rattle.dj_class.specs.FirstForm.{segments}
 
 -- a test that stops at the first list without the property
@@ -105,12 +104,6 @@ pub array_result : (units : List ℕ) (r : Result Bool AllocError) → ((rest : 
     → IfOk r (λ is. IsTrue is ↔ IsArrayDescriptor units)
 array_result units (Ok is) begins h = (λ yes. bracket_is_array units (h.0 yes) begins, λ array. h.1 (Field (Array array.element), array.spelled))
 array_result units (Err e) begins h = tt
-
--- what an entry of this name leads to
-pub sound_result : (pool : List Entry) (name : ℕ) (units : List ℕ) (r : Result Bool AllocError) → Some units ≡ text_at pool name → IfOk r (λ is. IsTrue is ↔ IsClassOrArray units)
-    → IfOk r (λ is. IsTrue is ↔ IsSomeAnd (text_at pool name) IsClassOrArray)
-sound_result pool name units (Ok is) e h = rw (← e) h
-sound_result pool name units (Err error) e h = tt
 
 -- all of the items that are taken are all
 pub all_taken : {X : Type 0} (P : X → Type 0) (xs : List X) (n : ℕ) → length xs ≤ n → All P (take n xs) → All P xs

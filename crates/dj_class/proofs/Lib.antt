@@ -3,6 +3,7 @@ pub mod ClassIsExact
 pub mod ClassContents
 pub mod ClassNameTests
 pub mod ClassMethods
+pub mod ClassSound
 pub mod ClassResolved
 pub mod ClassFirstForm
 pub mod ClassIsUnique

@@ -1,11 +1,12 @@
 -- What the functions that resolve a class of the first form promise each other.
-use Rattle.std.specs.Prelude.{◌≡◌, ◌⊎◌, ℕ, List, [], ◌∷◌, Some, IsSome, All, codes}
+use Rattle.std.specs.Prelude.{◌≡◌, ◌⊎◌, ◌↔◌, ℕ, List, [], ◌∷◌, Some, IsSome, IsSomeAnd, All, Bool, IsTrue, codes}
+use Rattle.std.specs.List.{AllZip}
 use Rattle.dj_class.specs.declared.class.raw.Entry.{Entry}
 use Rattle.dj_class.specs.declared.class.raw.Member.{Member}
 use Rattle.dj_names.specs.ClassNames.{IsClassName}
 use Rattle.dj_names.specs.Assignable.{object_name}
 use Rattle.dj_class.specs.declared.class.raw.RawFile.{RawFile}
-use Rattle.dj_class.specs.ResolvedClass.{MethodOf, ClassOf, AreNamed, DescribesMethod, Describes, contents, text_at, class_at}
+use Rattle.dj_class.specs.ResolvedClass.{MethodOf, ClassOf, AreNamed, DescribesMethod, Describes, IsClassOrArray, contents, units_at, text_at, class_at}
 use Rattle.dj_class.specs.FirstForm.{IsSayable}
 
 -- a method that a class of the first form may have
@@ -48,3 +49,11 @@ pub record IsFirstClass (raw : RawFile) (class : ClassOf) : Type 0 where
   pub method_flags : All (λ method. (method.flags ≡ 0x8) ⊎ (method.flags ≡ 0x9)) class.methods
   pub with_code : All (λ method. IsSome method.code) class.methods
   pub no_exceptions : All (λ member. contents raw.pool (codes "Exceptions") member.attributes ≡ []) raw.methods
+
+-- a text that a Class entry may lead to (JVMS 4.4.1)
+abbrev pub IsNameEntry : Entry → Type 0
+IsNameEntry entry = IsSomeAnd (units_at entry) IsClassOrArray
+
+-- the table tells of each entry of the pool whether a Class entry may lead to it
+abbrev pub IsNameTable : List Entry → List Bool → Type 0
+IsNameTable pool names = AllZip (λ entry named. IsTrue named ↔ IsNameEntry entry) pool names

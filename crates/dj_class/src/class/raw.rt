@@ -1,15 +1,19 @@
-//! The layout of a class file as plain data, and its reader (JVMS 4.1, 4.4, 4.5, 4.6, 4.7).
+//! The layout of a class file as plain data, and its reader (JVMS 4.1).
 
-ghost use Rattle.std.specs.Prelude.{◌≡◌, ◌↔◌, ◌<◌, All, length, take, slice_index, IfOk, IfSome, IfNone, IsTrue};
+mod entries;
+mod members;
+
 ghost use Rattle.dj_layout.specs.Layout.{Reads};
-ghost use Rattle.dj_layout.specs.Parts.{times};
 ghost use Rattle.dj_layout.specs.Whole.{ReadsWhole};
 ghost use Rattle.dj_class.specs.declared.class.raw.BrokenKind.TheVariants.{Trailing};
-ghost use Rattle.dj_class.specs.ClassFile.{IsUnit, units, text, u2, entry, entries, pool, counted, attribute, member, major, front, own, lists, body, magic, file};
+ghost use Rattle.dj_class.specs.ClassFile.{major, front, own, lists, body, magic, file};
 
-use dj_layout::{Stop, fault_at, run_at, u8_at, u16_at, u32_at};
+use dj_layout::{Stop, fault_at, u16_at, u32_at};
 use dj_names::{Items, Units};
-use std::alloc::{AllocError, Global};
+use entries::pool_at;
+pub use members::attributes_at;
+use members::{indices_at, members_at};
+use std::alloc::Global;
 
 const MAGIC: u32 = 0xcafe_babe;
 
@@ -74,235 +78,6 @@ struct Lists {
     fields: Items<Member>,
     methods: Items<Member>,
     attributes: Items<Attribute>,
-}
-
-/// Whether the byte is a unit by itself.
-fn is_unit(byte: u8) -> bool
-    ensures unit { IsTrue result ↔ IsUnit byte }
-{
-    matches!(byte, 1..=127)
-}
-
-/// The bytes, each as a unit.
-fn widened(alloc: Global, bytes: &[u8]) -> Result<Units, AllocError>
-    ensures units { IfOk result (λ made. made ≡ bytes.now) }
-{
-    let mut units = Vec::new(alloc);
-    for byte in bytes {
-        units.push(u16::from(*byte))?;
-    }
-    Ok(Units::from_vec(units))
-}
-
-/// The place of the first byte that is no unit.
-fn wrong_unit(bytes: &[u8]) -> Option<usize>
-    ensures none { IfNone result (All IsUnit bytes.now) }
-    ensures wrong { IfSome result (λ at. (at < length bytes.now) × ¬ IsUnit (slice_index bytes.now at)) }
-    ensures before { IfSome result (λ at. All IsUnit (take at bytes.now)) }
-{
-    bytes.iter().position(|byte| !is_unit(*byte))
-}
-
-/// `n` units.
-fn units_at(
-    alloc: Global,
-    n: usize,
-    bytes: &[u8],
-    end: usize,
-) -> Result<(Units, &[u8]), Stop<BrokenKind>>
-    ensures reads { Reads (units n) (λ x. (x.0, x.1.now)) end bytes.now result }
-{
-    let (text, rest) = run_at(bytes, end, n, BrokenKind::Short)?;
-    match wrong_unit(text) {
-        Some(wrong) => Err(Stop::Fault(fault_at(&bytes[wrong..], end, BrokenKind::Units))),
-        None => Ok((widened(alloc, text)?, rest)),
-    }
-}
-
-/// Units behind their number.
-fn text_at(alloc: Global, bytes: &[u8], end: usize) -> Result<(Units, &[u8]), Stop<BrokenKind>>
-    ensures reads { Reads text (λ x. (x.0, x.1.now)) end bytes.now result }
-{
-    let (len, rest) = u16_at(bytes, end, BrokenKind::Short)?;
-    units_at(alloc, len as usize, rest, end)
-}
-
-/// An entry of the pool.
-fn entry_at(alloc: Global, bytes: &[u8], end: usize) -> Result<(Entry, &[u8]), Stop<BrokenKind>>
-    ensures reads { Reads entry (λ x. (x.0, x.1.now)) end bytes.now result }
-{
-    let (tag, rest) = u8_at(bytes, end, BrokenKind::Short)?;
-    match tag {
-        1 => {
-            let (units, rest) = text_at(alloc, rest, end)?;
-            Ok((Entry::Utf8(units), rest))
-        }
-        7 => {
-            let (name, rest) = u16_at(rest, end, BrokenKind::Short)?;
-            Ok((Entry::Class(name), rest))
-        }
-        _ => Err(Stop::Fault(fault_at(bytes, end, BrokenKind::Tag))),
-    }
-}
-
-/// The entries of the pool from index 1 on, with one item an index from 0 on.
-fn entries_at(
-    alloc: Global,
-    count: u16,
-    bytes: &[u8],
-    end: usize,
-) -> Result<(Items<Entry>, &[u8]), Stop<BrokenKind>>
-    ensures reads { Reads (entries count) (λ x. (x.0, x.1.now)) end bytes.now result }
-{
-    let mut found = Items::new(alloc);
-    found.push(Entry::Skip)?;
-    let mut rest = bytes;
-    for _ in 0..count {
-        let (entry, after) = entry_at(alloc, rest, end)?;
-        found.push(entry)?;
-        rest = after;
-    }
-    Ok((found, rest))
-}
-
-/// The pool behind its count.
-fn pool_at(
-    alloc: Global,
-    bytes: &[u8],
-    end: usize,
-) -> Result<(Items<Entry>, &[u8]), Stop<BrokenKind>>
-    ensures reads { Reads pool (λ x. (x.0, x.1.now)) end bytes.now result }
-{
-    let (count, rest) = u16_at(bytes, end, BrokenKind::Short)?;
-    if count < 1 {
-        return Err(Stop::Fault(fault_at(bytes, end, BrokenKind::Index)));
-    }
-    entries_at(alloc, count - 1, rest, end)
-}
-
-/// An attribute.
-fn attribute_at(
-    alloc: Global,
-    bytes: &[u8],
-    end: usize,
-) -> Result<(Attribute, &[u8]), Stop<BrokenKind>>
-    ensures reads { Reads attribute (λ x. (x.0, x.1.now)) end bytes.now result }
-{
-    let (name, rest) = u16_at(bytes, end, BrokenKind::Short)?;
-    let (len, rest) = u32_at(rest, end, BrokenKind::Short)?;
-    let (content, rest) = run_at(rest, end, len as usize, BrokenKind::Short)?;
-    let content = Items::from_slice(alloc, content)?;
-    Ok((Attribute { name, content }, rest))
-}
-
-/// So many attributes.
-fn attribute_list(
-    alloc: Global,
-    count: u16,
-    bytes: &[u8],
-    end: usize,
-) -> Result<(Items<Attribute>, &[u8]), Stop<BrokenKind>>
-    ensures reads { Reads (times count attribute) (λ x. (x.0, x.1.now)) end bytes.now result }
-{
-    let mut found = Items::new(alloc);
-    let mut rest = bytes;
-    for _ in 0..count {
-        let (attribute, after) = attribute_at(alloc, rest, end)?;
-        found.push(attribute)?;
-        rest = after;
-    }
-    Ok((found, rest))
-}
-
-/// Attributes behind their number.
-pub fn attributes_at(
-    alloc: Global,
-    bytes: &[u8],
-    end: usize,
-) -> Result<(Items<Attribute>, &[u8]), Stop<BrokenKind>>
-    ensures reads { Reads (counted attribute) (λ x. (x.0, x.1.now)) end bytes.now result }
-{
-    let (count, rest) = u16_at(bytes, end, BrokenKind::Short)?;
-    attribute_list(alloc, count, rest, end)
-}
-
-/// A field or a method.
-fn member_at(alloc: Global, bytes: &[u8], end: usize) -> Result<(Member, &[u8]), Stop<BrokenKind>>
-    ensures reads { Reads member (λ x. (x.0, x.1.now)) end bytes.now result }
-{
-    let (flags, rest) = u16_at(bytes, end, BrokenKind::Short)?;
-    let (name, rest) = u16_at(rest, end, BrokenKind::Short)?;
-    let (descriptor, rest) = u16_at(rest, end, BrokenKind::Short)?;
-    let (attributes, rest) = attributes_at(alloc, rest, end)?;
-    let member = Member {
-        flags,
-        name,
-        descriptor,
-        attributes,
-    };
-    Ok((member, rest))
-}
-
-/// So many fields or methods.
-fn member_list(
-    alloc: Global,
-    count: u16,
-    bytes: &[u8],
-    end: usize,
-) -> Result<(Items<Member>, &[u8]), Stop<BrokenKind>>
-    ensures reads { Reads (times count member) (λ x. (x.0, x.1.now)) end bytes.now result }
-{
-    let mut found = Items::new(alloc);
-    let mut rest = bytes;
-    for _ in 0..count {
-        let (member, after) = member_at(alloc, rest, end)?;
-        found.push(member)?;
-        rest = after;
-    }
-    Ok((found, rest))
-}
-
-/// Fields or methods behind their number.
-fn members_at(
-    alloc: Global,
-    bytes: &[u8],
-    end: usize,
-) -> Result<(Items<Member>, &[u8]), Stop<BrokenKind>>
-    ensures reads { Reads (counted member) (λ x. (x.0, x.1.now)) end bytes.now result }
-{
-    let (count, rest) = u16_at(bytes, end, BrokenKind::Short)?;
-    member_list(alloc, count, rest, end)
-}
-
-/// So many indices.
-fn index_list(
-    alloc: Global,
-    count: u16,
-    bytes: &[u8],
-    end: usize,
-) -> Result<(Items<u16>, &[u8]), Stop<BrokenKind>>
-    ensures reads { Reads (times count u2) (λ x. (x.0, x.1.now)) end bytes.now result }
-{
-    let mut found = Items::new(alloc);
-    let mut rest = bytes;
-    for _ in 0..count {
-        let (index, after) = u16_at(rest, end, BrokenKind::Short)?;
-        found.push(index)?;
-        rest = after;
-    }
-    Ok((found, rest))
-}
-
-/// Indices behind their number.
-fn indices_at(
-    alloc: Global,
-    bytes: &[u8],
-    end: usize,
-) -> Result<(Items<u16>, &[u8]), Stop<BrokenKind>>
-    ensures reads { Reads (counted u2) (λ x. (x.0, x.1.now)) end bytes.now result }
-{
-    let (count, rest) = u16_at(bytes, end, BrokenKind::Short)?;
-    index_list(alloc, count, rest, end)
 }
 
 /// The major version.

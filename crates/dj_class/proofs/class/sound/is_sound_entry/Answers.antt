@@ -1,6 +1,10 @@
-use Rattle.dj_class.proofs.ClassNameTests.{sound_result}
+use Rattle.std.proofs.Common.{◌≡◌, ◌∙◌, Bool, false, Option, get_or, ap, arith}
+use Rattle.std.specs.Option.{unwrap_or}
+use Rattle.dj_class.proofs.ClassSound.{names_tell}
 use Rattle.dj_class.proofs.class.sound.is_sound_entry.Goals as goal
 
-pub returns-in-Some : goal.returns-in-Some
-returns-in-Some c =
-    rw c.in-Class.is record { exact = sound_result c.args.pool.now c.in-Class.name c.in-Some.units.now c.is_class_or_array.result c.in-Some.ensures.text c.is_class_or_array.ensures.exact }
+pub returns-in-Class : goal.returns-in-Class
+returns-in-Class c =
+    let found : c.unwrap_or.result ≡ get_or c.args.names.now c.in-Class.name false =
+    c.unwrap_or.ensures ∙ ap (λ (o : Option Bool). unwrap_or o false) c.copied.ensures ∙ c.get.ensures.lookup.4 (omega arith) false in
+    rw c.in-Class.is record { exact = λ pool table. rw found (names_tell pool c.args.names.now c.in-Class.name table) }

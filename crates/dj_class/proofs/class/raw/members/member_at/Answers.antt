@@ -3,7 +3,7 @@ use Rattle.std.proofs.lemmas.Result.{err_from_is_err_and}
 use Rattle.dj_layout.proofs.Steps.{stops_in}
 use Rattle.dj_class.specs.ClassFile.{counted, attribute, member}
 use Rattle.dj_class.proofs.ClassLayout.{spells_member}
-use Rattle.dj_class.proofs.class.raw.member_at.Goals as goal
+use Rattle.dj_class.proofs.class.raw.members.member_at.Goals as goal
 
 pub returns-in_err-attributes : goal.returns-in_err-attributes
 returns-in_err-attributes c =

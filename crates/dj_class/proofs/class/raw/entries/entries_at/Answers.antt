@@ -3,7 +3,7 @@ use Rattle.std.proofs.lemmas.Result.{err_from_is_err_and}
 use Rattle.dj_layout.proofs.Loops.{times_stop}
 use Rattle.dj_class.specs.ClassFile.{entry}
 use Rattle.dj_class.proofs.ClassLayout.{entries_pushed}
-use Rattle.dj_class.proofs.class.raw.entries_at.Goals as goal
+use Rattle.dj_class.proofs.class.raw.entries.entries_at.Goals as goal
 
 pub returns-in_err-entry : goal.returns-in_err-entry
 returns-in_err-entry c =

@@ -1,6 +1,6 @@
 use Rattle.std.proofs.Common.{inr}
 use Rattle.dj_class.proofs.ClassLayout.{wrong_unit_halts}
-use Rattle.dj_class.proofs.class.raw.units_at.Goals as goal
+use Rattle.dj_class.proofs.class.raw.entries.units_at.Goals as goal
 
 pub returns-in-Some : goal.returns-in-Some
 returns-in-Some c =

@@ -2,7 +2,7 @@ use Rattle.std.proofs.lemmas.Result.{err_from_is_err_and}
 use Rattle.dj_layout.proofs.Loops.{times_stop}
 use Rattle.dj_class.specs.ClassFile.{member}
 use Rattle.dj_class.proofs.ClassLayout.{times_pushed}
-use Rattle.dj_class.proofs.class.raw.member_list.Goals as goal
+use Rattle.dj_class.proofs.class.raw.members.member_list.Goals as goal
 
 pub returns-in_err-member : goal.returns-in_err-member
 returns-in_err-member c =

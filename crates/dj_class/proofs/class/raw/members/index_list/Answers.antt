@@ -2,7 +2,7 @@ use Rattle.std.proofs.lemmas.Result.{err_from_is_err_and}
 use Rattle.dj_layout.proofs.Loops.{times_stop}
 use Rattle.dj_class.specs.ClassFile.{u2}
 use Rattle.dj_class.proofs.ClassLayout.{times_pushed}
-use Rattle.dj_class.proofs.class.raw.index_list.Goals as goal
+use Rattle.dj_class.proofs.class.raw.members.index_list.Goals as goal
 
 pub returns-in_err-index : goal.returns-in_err-index
 returns-in_err-index c =

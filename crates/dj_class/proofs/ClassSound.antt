@@ -1,0 +1,22 @@
+-- What the table of a pool's names tells.
+use Rattle.std.proofs.Common.{◌≡◌, ◌↔◌, ℕ, zero, suc, ◌+◌, ◌<◌, List, [], ◌∷◌, ◌++◌, length, get_or, take, Bool, false, IsTrue, IsSomeAnd}
+use Rattle.std.proofs.lemmas.Bool.{false≢true}
+use Rattle.std.proofs.lemmas.List.{take_more}
+use Rattle.std.proofs.lemmas.Slice.Zip.{all_zipped_more}
+use Rattle.dj_class.specs.declared.class.raw.Entry.{Entry}
+use Rattle.dj_class.specs.ResolvedClass.{IsClassOrArray, text_at}
+use Rattle.dj_class.specs.FirstParts.{IsNameEntry, IsNameTable}
+
+-- the table of one more entry
+pub names_more : (pool : List Entry) (i : ℕ) (entry : Entry) (names pushed : List Bool) (named : Bool) → i < length pool → entry ≡ get_or pool i entry → IsNameTable (take i pool) names
+    → IsTrue named ↔ IsNameEntry entry → pushed ≡ names ++ named ∷ [] → IsNameTable (take (i + 1) pool) pushed
+names_more pool i entry names pushed named within is table one is_pushed =
+    rw (is_pushed, take_more pool i entry within, ← is) (all_zipped_more (λ e b. IsTrue b ↔ IsNameEntry e) (take i pool) names entry named table one)
+
+-- the table at an index tells whether a Class entry may lead there
+pub names_tell : (pool : List Entry) (names : List Bool) (index : ℕ) → IsNameTable pool names → IsTrue (get_or names index false) ↔ IsSomeAnd (text_at pool index) IsClassOrArray
+names_tell [] [] index table = (λ yes. absurd (false≢true yes), λ h. absurd h)
+names_tell [] (named ∷ names) index table = absurd table
+names_tell (entry ∷ pool) [] index table = absurd table
+names_tell (entry ∷ pool) (named ∷ names) zero table = table.0
+names_tell (entry ∷ pool) (named ∷ names) (suc index) table = names_tell pool names index table.1
