@@ -1,0 +1,125 @@
+//! Methods, constructors and static initialisers, read from words (JLS 8.4, 8.7, 8.8, 9.4).
+
+ghost use Rattle.std.specs.Prelude.{◌≡◌, IfOk, map, option_map};
+ghost use Rattle.dj_names.specs.Types.{view_descriptor, view_type};
+ghost use Rattle.dj_syntax.specs.Trees.{view_body, view_method, view_stm};
+ghost use Rattle.dj_read.specs.Members.{body_of, method_of, read_body, read_initialiser, read_method};
+ghost use Rattle.dj_read.specs.Places.{view_place};
+
+use crate::bodies::read_statements;
+use crate::members::Place;
+use crate::names::{read_names, read_parameters, units_of};
+use crate::well_formed::flags::held_method;
+use crate::words::Reader;
+use dj_names::{Descriptor, Items, JType, Units, copy_names};
+use dj_syntax::{Body, MethodText, Stm};
+use std::alloc::{AllocError, Global};
+
+/// The name of a constructor.
+pub const CONSTRUCTOR: &[u8] = b"<init>";
+
+/// The name of a static initialiser.
+const INITIALISER: &[u8] = b"<clinit>";
+
+/// A method from the parenthesis of its parameters on.
+pub fn read_method(
+    alloc: Global,
+    place: &Place,
+    bits: u16,
+    name: Units,
+    kind: Option<JType>,
+    reader: &mut Reader,
+) -> Result<MethodText, AllocError>
+    ensures read { IfOk result (λ method. (view_method method, reader.new) ≡ read_method (view_place place.now) bits name (option_map view_type kind) reader.old) }
+{
+    reader.advance();
+    let parameters = read_parameters(alloc, reader)?;
+    let thrown = read_names(alloc, reader, b"throws")?;
+    let statements = read_body(alloc, reader)?;
+    let head = MethodText {
+        flags: bits,
+        name,
+        descriptor: Descriptor::Method {
+            parameters,
+            result: kind,
+        },
+        thrown,
+        body: None,
+    };
+    with_body(alloc, place, head, statements)
+}
+
+/// A static initialiser from its brace on.
+pub fn read_initialiser(
+    alloc: Global,
+    place: &Place,
+    bits: u16,
+    reader: &mut Reader,
+) -> Result<MethodText, AllocError>
+    ensures read { IfOk result (λ method. (view_method method, reader.new) ≡ read_initialiser (view_place place.now) bits reader.old) }
+{
+    let statements = read_body(alloc, reader)?;
+    let head = MethodText {
+        flags: bits,
+        name: units_of(alloc, INITIALISER)?,
+        descriptor: Descriptor::Method {
+            parameters: Items::new(alloc),
+            result: None,
+        },
+        thrown: Items::new(alloc),
+        body: None,
+    };
+    with_body(alloc, place, head, statements)
+}
+
+/// The statements of a body, where there is one: in braces, or a semicolon.
+fn read_body(alloc: Global, reader: &mut Reader) -> Result<Option<Items<Stm>>, AllocError>
+    ensures read { IfOk result (λ body. (option_map (map view_stm) body, reader.new) ≡ read_body reader.old) }
+{
+    let in_braces = reader.is_at(b"{");
+    reader.advance();
+    if in_braces {
+        Ok(Some(read_statements(alloc, reader)?))
+    } else {
+        Ok(None)
+    }
+}
+
+/// A method with this head, whose flags are the bits that its text shows, and with this body.
+fn with_body(
+    alloc: Global,
+    place: &Place,
+    mut method: MethodText,
+    statements: Option<Items<Stm>>,
+) -> Result<MethodText, AllocError>
+    ensures method { IfOk result (λ made. view_method made ≡ method_of (view_place place.now) method.flags method.name (view_descriptor method.descriptor) method.thrown (option_map (map view_stm) statements)) }
+{
+    method.body = match statements {
+        Some(statements) => Some(body_of(alloc, place, &method, statements)?),
+        None => None,
+    };
+    method.flags = held_method(place.interface, &method);
+    if let Some(body) = &mut method.body {
+        body.flags = method.flags;
+    }
+    Ok(method)
+}
+
+/// A body with the head of its method.
+fn body_of(
+    alloc: Global,
+    place: &Place,
+    method: &MethodText,
+    statements: Items<Stm>,
+) -> Result<Body, AllocError>
+    ensures body { IfOk result (λ body. view_body body ≡ body_of (view_place place.now) (view_method method.now) (map view_stm statements)) }
+{
+    Ok(Body {
+        class: place.class.copy(alloc)?,
+        flags: method.flags,
+        name: method.name.copy(alloc)?,
+        descriptor: method.descriptor.copy(alloc)?,
+        thrown: copy_names(alloc, method.thrown.as_slice())?,
+        statements,
+    })
+}

@@ -1,0 +1,59 @@
+//! The reader of units: exactly the bytes that are the text of a well formed unit are read, as that unit.
+
+ghost use Rattle.std.specs.Prelude.{◌≡◌, ◌↔◌, IfErr, IfOk, IsTrue};
+ghost use Rattle.dj_syntax.specs.Trees.{view_unit};
+ghost use Rattle.dj_syntax.specs.UnitText.{unit_text};
+ghost use Rattle.dj_syntax.specs.WellFormed.{IsWellFormed};
+ghost use Rattle.dj_read.specs.Faults.{IsReadUnitFault};
+
+use crate::units::unit_from_words;
+use crate::well_formed::is_well_formed;
+use crate::words::Reader;
+use dj_print::unit_bytes;
+use dj_syntax::Unit;
+use std::alloc::{AllocError, Global};
+use thiserror::Error;
+
+/// Why bytes aren't read as a unit.
+#[derive(Debug, Drop, Error)]
+pub enum ReadUnitFault {
+    #[error("the bytes are the text of no unit")]
+    Misread,
+    #[error(transparent)]
+    Memory(AllocError),
+}
+
+impl From<AllocError> for ReadUnitFault {
+    ghost use Rattle.std.specs.Prelude.{◌≡◌};
+    ghost use Rattle.dj_read.specs.declared.read.ReadUnitFault.TheVariants.{Memory};
+
+    ghost from_gives = { λ error fault. fault ≡ Memory error };
+
+    fn from(error: AllocError) -> ReadUnitFault {
+        ReadUnitFault::Memory(error)
+    }
+}
+
+/// The unit whose text the bytes are.
+pub fn read_unit(alloc: Global, bytes: &[u8]) -> Result<Unit, ReadUnitFault>
+    ensures read { IfOk result (λ unit. IsWellFormed (view_unit unit) × (unit_text (view_unit unit) ≡ bytes.now)) }
+    ensures misread { IfErr result (λ fault. IsReadUnitFault bytes.now fault) }
+{
+    let mut reader = Reader::new(bytes);
+    let unit = unit_from_words(alloc, bytes.len(), &mut reader)?;
+    if is_spelled(alloc, &unit, bytes)? {
+        Ok(unit)
+    } else {
+        Err(ReadUnitFault::Misread)
+    }
+}
+
+/// Whether a unit is well formed, and these bytes are its text.
+fn is_spelled(alloc: Global, unit: &Unit, bytes: &[u8]) -> Result<bool, AllocError>
+    ensures spelled { IfOk result (λ spelled. IsTrue spelled ↔ (IsWellFormed (view_unit unit.now) × (unit_text (view_unit unit.now) ≡ bytes.now))) }
+{
+    if !is_well_formed(unit) {
+        return Ok(false);
+    }
+    Ok(unit_bytes(alloc, unit)?.as_slice() == bytes)
+}
