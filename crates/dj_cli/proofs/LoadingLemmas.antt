@@ -1,11 +1,10 @@
 -- What loading one more file adds to the names asked, and to the files loaded.
-use Rattle.std.proofs.Common.{◌≡◌, ℕ, ◌+◌, ◌<◌, ◌≤◌, List, [], ◌∷◌, ◌++◌, length, get_or, take, map, Option, Some, None, refl, sym, ap, ◌∙◌, subst, arith, append_assoc, inl, inr}
+use Rattle.std.proofs.Common.{◌≡◌, ℕ, ◌+◌, ◌<◌, ◌≤◌, List, [], ◌∷◌, ◌++◌, length, get_or, take, map, Option, Some, None, sym, ap, ◌∙◌, subst, arith, append_assoc, inl, inr}
 use Rattle.std.specs.Prelude.{IfSome, IsSomeAnd, slice_get}
 use Rattle.std.specs.Option.{option_map}
 use Rattle.std.proofs.lemmas.List.{take_more, take-map, map_push}
 use Rattle.std.proofs.lemmas.Option.{slice_get-map, slice_get-get_or}
-use Rattle.std.proofs.lemmas.List.{length-map}
-use Rattle.dj_outer.specs.Count.{Rose, last_count}
+use Rattle.dj_outer.specs.Count.{Rose}
 use Rattle.dj_outer.specs.Files.{file_named, HasFile, with_asked}
 use Rattle.dj_cli.specs.declared.loading.LoadStop.{LoadStop}
 use Rattle.dj_cli.specs.declared.loading.LoadStop.TheVariants.{Fault, Over, Memory}

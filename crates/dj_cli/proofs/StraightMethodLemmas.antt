@@ -1,25 +1,28 @@
--- When a method is straight, from what its parts are.
-use Rattle.std.proofs.Common.{◌≡◌, ℕ, zero, suc, ◌<◌, Bool, true, false, List, [], ◌∷◌, length, get_or, map, replicate, Option, Some, None, Result, Ok, Err, refl, sym, ap, ◌∙◌, subst, arith, All}
-use Rattle.std.specs.Prelude.{IfOk, IfSome, IfNone}
+-- What is found of a method, from what its parts are.
+use Rattle.std.proofs.Common.{◌≡◌, ℕ, zero, suc, List, [], ◌∷◌, length, replicate, Some, None, Result, Ok, Err, refl, sym, ap, ◌∙◌, subst, inl, inr}
+use Rattle.std.specs.Prelude.{IfOk}
 use Rattle.std.specs.List.{AllByRecursion}
-use Rattle.std.proofs.lemmas.List.Elements.{All-from_recursion, recursion_from_All}
-use Rattle.std.proofs.lemmas.List.{length-replicate}
 use Rattle.std.specs.declared.alloc.AllocError.{AllocError}
 use Rattle.dj_layout.specs.Whole.{IsWhole}
 use Rattle.dj_layout.proofs.Laws.{whole_unique}
 use Rattle.dj_names.specs.declared.types.JType as code_types
 use Rattle.dj_names.specs.Types.{JType, Int, Descriptor, Field, Method, view_type, view_types}
-use Rattle.dj_names.specs.Identifiers.{IsIdentifier}
 use Rattle.dj_class.specs.declared.class.raw.Entry.{Entry}
 use Rattle.dj_class.specs.declared.class.content.CodeContent.{CodeContent}
 use Rattle.dj_class.specs.ResolvedClass.{MethodOf}
 use Rattle.dj_class.specs.CodeContent as layouts
 use Rattle.dj_class.proofs.ClassIsExact.{exact-content}
-use Rattle.dj_syntax.specs.declared.expression.Exp as code_exp
-use Rattle.dj_syntax.specs.Trees.{Exp, view_exp}
-use Rattle.dj_cli.specs.StraightMethod.{IsStraightContent, IsStraightMethod}
+use Rattle.dj_syntax.specs.UnitText.{parameters_of}
+use Rattle.dj_cli.specs.declared.straight_method.Judged.{Judged}
+use Rattle.dj_cli.specs.declared.straight_method.Judged.TheVariants.{Straight, NotYet}
+use Rattle.dj_cli.specs.Ints.{AnswersInt}
+use Rattle.dj_cli.specs.StraightMethod.{IsDeclared, IsPlainContent, IsCandidate, IsNotYet, no_candidate, breaks}
+use Rattle.dj_cli.specs.DeclaredMethods.{IsAdmitted}
+use Rattle.dj_cli.specs.Judged.{HasPlainHead, IsNotYetContent, IsJudgedContent, IsJudged}
+use Rattle.dj_cli.proofs.DeclaredLemmas.{same_count}
 
--- types that are all int
+-- ---- types that are all int
+
 pub ints_are : (kinds : List code_types.JType) → AllByRecursion (λ kind. view_type kind ≡ Int) kinds → view_types kinds ≡ replicate (length kinds) Int
 ints_are [] all = refl
 ints_are (kind ∷ kinds) all = rw (all.0, ints_are kinds all.1) refl
@@ -32,35 +35,75 @@ are_ints (suc count) (kind ∷ kinds) same =
     let both : (view_type kind ≡ Int) × (view_types kinds ≡ replicate count Int) = (cc, cc) in
     (both.0, are_ints count kinds both.1)
 
--- as many ints are as many
-same_count : (first second : ℕ) → replicate {A = JType} first Int ≡ replicate second Int → first ≡ second
-same_count first second same = sym (length-replicate first Int) ∙ ap length same ∙ length-replicate second Int
+-- a descriptor from ints to an int
+ints_to_int : (descriptor : Descriptor) (ints : List JType) → parameters_of descriptor ≡ ints → AnswersInt descriptor → descriptor ≡ Method ints (Some Int)
+ints_to_int (Field kind) ints taken answers = absurd answers
+ints_to_int (Method parameters result) ints taken answers = rw (taken, answers) refl
 
--- the parameters of a descriptor
-abbrev parameters_of : Descriptor → List JType
-parameters_of (Method parameters result) = parameters
-parameters_of (Field kind) = []
+-- ---- what is no candidate
 
-module _ (pool : List Entry) (method : MethodOf) (parameters : ℕ) (bytes : List ℕ) (content : CodeContent) (descriptor : method.descriptor ≡ Method (replicate parameters Int) (Some Int)) (code : method.code ≡ Some bytes) (laid_out : IsWhole layouts.content bytes content) where
-  -- a method whose content is straight
-  pub straight_from_content : IsIdentifier method.name → method.thrown ≡ [] → (result : Result (Option code_exp.Exp) AllocError) → IfOk result (λ found. IfSome found (λ exp. IsStraightContent pool parameters content (view_exp exp)))
-      → IfOk result (λ found. IfSome found (λ exp. IsStraightMethod pool method (view_exp exp)))
-  straight_from_content name thrown (Ok (Some exp)) holds =
-      record { name = name; thrown = thrown; parameters = parameters; descriptor = descriptor; bytes = bytes; code = code; content = content; laid_out = laid_out; straight = holds }
-  straight_from_content name thrown (Ok None) holds = holds
-  straight_from_content name thrown (Err error) holds = holds
+module _ (pool : List Entry) (before : List MethodOf) (method : MethodOf) where
+  pub not_first : IsAdmitted before method None → IsNotYet pool before method 0
+  not_first admitted = no_candidate (λ parameters content candidate.
+      let ints : parameters_of method.descriptor ≡ replicate parameters Int = ap parameters_of candidate.descriptor in
+      candidate.first (rw ints (admitted parameters ints)))
 
-  -- a straight method has the content that its code has
-  content_of : (exp : Exp) → IsStraightMethod pool method exp → IsStraightContent pool parameters content exp
-  content_of exp straight =
-      let count : straight.parameters ≡ parameters = same_count straight.parameters parameters (ap parameters_of (sym straight.descriptor ∙ descriptor)) in
-      let same_bytes : straight.bytes ≡ bytes = cc (straight.code, code) in
-      let laid : IsWhole layouts.content bytes straight.content = subst (λ these. IsWhole layouts.content these straight.content) same_bytes straight.laid_out in
-      let same : straight.content ≡ content = whole_unique layouts.content exact-content bytes straight.content content laid laid_out in
-      subst (λ these. IsStraightContent pool parameters these exp) same (subst (λ count. IsStraightContent pool count straight.content exp) count straight.straight)
+  pub not_plain_head : ¬ HasPlainHead method → IsNotYet pool before method 0
+  not_plain_head other = no_candidate (λ parameters content candidate.
+      other (record { name = candidate.name; thrown = candidate.thrown; answers = subst AnswersInt (sym candidate.descriptor) refl }))
 
-  pub not_straight_from_content : (result : Result (Option code_exp.Exp) AllocError) → IfOk result (λ found. IfNone found ((exp : Exp) → IsStraightContent pool parameters content exp → ⊥))
-      → IfOk result (λ found. IfNone found ((exp : Exp) → IsStraightMethod pool method exp → ⊥))
-  not_straight_from_content (Ok (Some exp)) holds = holds
-  not_straight_from_content (Ok None) holds = λ exp straight. holds exp (content_of exp straight)
-  not_straight_from_content (Err error) holds = holds
+  pub no_code : method.code ≡ None → IsNotYet pool before method 0
+  no_code none = no_candidate (λ parameters content candidate. cc (candidate.code, none))
+
+  pub not_laid_out : (bytes : List ℕ) → method.code ≡ Some bytes → ((content : CodeContent) → ¬ IsWhole layouts.content bytes content) → IsNotYet pool before method 0
+  not_laid_out bytes code other = no_candidate (λ parameters content candidate.
+      let same : candidate.bytes ≡ bytes = cc (candidate.code, code) in
+      other content (subst (λ these. IsWhole layouts.content these content) same candidate.laid_out))
+
+-- ---- what is found of content
+
+module _ (pool : List Entry) (method : MethodOf) (parameters : ℕ) (bytes : List ℕ) (content : CodeContent) (head : HasPlainHead method) (ints : parameters_of method.descriptor ≡ replicate parameters Int) (code : method.code ≡ Some bytes) (laid_out : IsWhole layouts.content bytes content) where
+  -- no method among these takes as many ints under the same name
+  abbrev IsFirst : List MethodOf → Type 0
+  IsFirst before = ¬ IsDeclared before method.name (replicate parameters Int)
+
+  candidate_of : (before : List MethodOf) → IsFirst before → IsPlainContent pool parameters content → IsCandidate pool before method parameters content
+  candidate_of before first plain = record {
+    name = head.name;
+    thrown = head.thrown;
+    first = rw ints first;
+    descriptor = ints_to_int method.descriptor (replicate parameters Int) ints head.answers;
+    bytes = bytes;
+    code = code;
+    laid_out = laid_out;
+    plain = plain;
+  }
+
+  -- a candidate has the content that its code has
+  plain_of : (before : List MethodOf) (count : ℕ) (other : CodeContent) → IsCandidate pool before method count other → IsPlainContent pool parameters content
+  plain_of before count other candidate =
+      let number : count ≡ parameters = same_count count parameters (ap parameters_of (sym candidate.descriptor) ∙ ints) in
+      let same_bytes : candidate.bytes ≡ bytes = cc (candidate.code, code) in
+      let laid : IsWhole layouts.content bytes other = subst (λ these. IsWhole layouts.content these other) same_bytes candidate.laid_out in
+      let same : other ≡ content = whole_unique layouts.content exact-content bytes other content laid laid_out in
+      subst (IsPlainContent pool parameters) same (subst (λ n. IsPlainContent pool n other) number candidate.plain)
+
+  not_yet : (before : List MethodOf) (pc : ℕ) → IsFirst before → IsNotYetContent pool parameters content pc → IsNotYet pool before method pc
+  not_yet before pc first (inl not_plain) =
+      subst (IsNotYet pool before method) (sym not_plain.1) (no_candidate (λ count other candidate. not_plain.0 (plain_of before count other candidate)))
+  not_yet before pc first (inr plain) = breaks (candidate_of before first plain.0) plain.1
+
+  found : (judged : Judged) → IsJudgedContent pool parameters content judged → (before : List MethodOf) → IsFirst before → IsJudged pool before method judged
+  found (Straight exp) straight before first = record {
+    parameters = parameters;
+    content = content;
+    candidate = candidate_of before first straight.plain;
+    formula = straight.formula;
+    postfix = straight.postfix;
+    tree = straight.tree;
+  }
+  found (NotYet pc) breaks_there before first = not_yet before pc first breaks_there
+
+  pub judged_by_content : (result : Result Judged AllocError) → IfOk result (IsJudgedContent pool parameters content) → IfOk result (λ judged. (before : List MethodOf) → IsFirst before → IsJudged pool before method judged)
+  judged_by_content (Ok judged) holds = found judged holds
+  judged_by_content (Err error) holds = holds

@@ -1,5 +1,5 @@
 -- What the program reads and writes: its output and its report, and when each answer of `run` comes.
-use Rattle.std.specs.Prelude.{◌≡◌, ◌≢◌, ◌⊎◌, ℕ, ◌+◌, ◌<◌, List, [], ◌∷◌, ◌++◌, length, map, take, slice_get, Option, Some, None, IfSome, IsSomeAnd, MatchBool, Bool, Result, Ok, Err}
+use Rattle.std.specs.Prelude.{◌≡◌, ◌≢◌, ℕ, ◌+◌, ◌<◌, List, [], ◌∷◌, ◌++◌, length, map, take, slice_get, Option, Some, IfSome, IsSomeAnd, MatchBool, Bool, Result, Ok, Err}
 use Rattle.std.specs.Io.KnownBytes.{append_known}
 use Rattle.std.specs.Option.{option_map}
 use Rattle.dj_outer.specs.Count.{Rose}
@@ -55,17 +55,32 @@ pub record WroteAll (Answer : List ℕ → List ℕ → Type 0) (text_old text_n
   pub report_taken : report_new ≡ append_known report_old report
   pub refused_is : MatchBool refused (report ≢ []) (report ≡ [])
 
--- fronts of a text and a report such as `Answer` tells were written, and nothing else
-pub record WroteFront (Answer : List ℕ → List ℕ → Type 0) (text_old text_new report_old report_new : Option (List ℕ)) : Type 0 where
-  pub text : List ℕ
-  pub report : List ℕ
-  pub answer : Answer text report
-  pub text_taken : TakesPrefix text_old text_new text
-  pub report_taken : TakesPrefix report_old report_new report
+-- the text and the lines on so many first files as `Answer` tells, and what the next file adds to each
+pub record AndNextFile (Answer : ℕ → List ℕ → List ℕ → Type 0) (most : ℕ) (text lines next_text next_lines : List ℕ) : Type 0 where
+  pub files : ℕ
+  pub due : files < most
+  pub earlier : Answer files text lines
+  pub answer : Answer (files + 1) (text ++ next_text) (lines ++ next_lines)
 
--- the same of the files in front of some place
-abbrev pub WroteFrontOfSome : (ℕ → List ℕ → List ℕ → Type 0) → Option (List ℕ) → Option (List ℕ) → Option (List ℕ) → Option (List ℕ) → Type 0
-WroteFrontOfSome Answer text_old text_new report_old report_new = (files : ℕ) × WroteFront (Answer files) text_old text_new report_old report_new
+-- the text and the lines on some first files were written, whole; of the next one a front of its text, and no line
+pub record WroteTextFront (Answer : ℕ → List ℕ → List ℕ → Type 0) (most : ℕ) (text_old text_new report_old report_new : Option (List ℕ)) : Type 0 where
+  pub text : List ℕ
+  pub lines : List ℕ
+  pub next_text : List ℕ
+  pub next_lines : List ℕ
+  pub next : AndNextFile Answer most text lines next_text next_lines
+  pub text_taken : TakesPrefix (append_known text_old text) text_new next_text
+  pub report_taken : report_new ≡ append_known report_old lines
+
+-- the text and the lines on some first files were written, whole; of the next one its text, whole, and a front of its lines
+pub record WroteReportFront (Answer : ℕ → List ℕ → List ℕ → Type 0) (most : ℕ) (text_old text_new report_old report_new : Option (List ℕ)) : Type 0 where
+  pub text : List ℕ
+  pub lines : List ℕ
+  pub next_text : List ℕ
+  pub next_lines : List ℕ
+  pub next : AndNextFile Answer most text lines next_text next_lines
+  pub text_taken : text_new ≡ append_known text_old (text ++ next_text)
+  pub report_taken : TakesPrefix (append_known report_old lines) report_new next_lines
 
 -- the load of the name at this place failed, the first that did: no name behind it was asked for
 pub record ReadFails (names : List (List ℕ)) (asked_old asked_new : Option (List (List ℕ))) (faults_old faults_new : ℕ) (place : ℕ) : Type 0 where

@@ -1,15 +1,15 @@
 //! The unit of a class, and the line that names its file.
 
-ghost use Rattle.std.specs.Prelude.{◌≡◌, ◌≢◌, ◌<◌, ℕ, [], ◌∷◌, All, Some, IfOk, IfSome, IfNone, length, slice_index};
-ghost use Rattle.dj_syntax.specs.Trees.{view_body, view_unit};
+ghost use Rattle.std.specs.Prelude.{◌≡◌, ◌≢◌, ◌<◌, ℕ, List, Option, All, IfOk, IfSome, IfNone, length, map, slice_index};
+ghost use Rattle.dj_syntax.specs.Trees as trees;
+ghost use Rattle.dj_syntax.specs.Trees.{view_unit};
 ghost use Rattle.dj_syntax.specs.WellFormed.{held_class};
-ghost use Rattle.dj_class.specs.FirstForm.{view_class, view_method};
-ghost use Rattle.dj_cli.specs.ClassText.{IsClassText, IsSplit, IsLastSlash, file_line};
+ghost use Rattle.dj_class.specs.FirstForm.{view_class};
+ghost use Rattle.dj_cli.specs.ClassText.{IsClassText, IsSplit, IsLastSlash, file_line, printed_methods};
 
-use crate::straight_method::METHOD_BITS;
-use dj_class::{ClassFile, Method};
-use dj_names::{ClassName, Items, Units, copy_names};
-use dj_syntax::{Body, MethodText, Unit};
+use dj_class::ClassFile;
+use dj_names::{ClassName, Items, Units};
+use dj_syntax::{MethodText, Unit};
 use std::alloc::{AllocError, Global};
 
 /// A class's name as a package, where it has one, and a simple name.
@@ -64,26 +64,16 @@ pub fn file_line(alloc: Global, name: &ClassName) -> Result<Vec<u8>, AllocError>
     Ok(line)
 }
 
-/// The unit of a class whose one method has this body.
+/// The unit of a class whose methods have these texts.
 pub fn class_unit(
     alloc: Global,
     class: &ClassFile,
-    method: &Method,
-    body: Body,
+    methods: Items<MethodText>,
 ) -> Result<Unit, AllocError>
-    requires one { (view_class class.now).methods ≡ view_method method.now ∷ [] }
-    ensures text { IfOk result (λ unit. IsClassText (view_class class.now) (Some (view_body body) ∷ []) (view_unit unit)) }
+    ensures text { IfOk result (λ unit. (bodies : List (Option trees.Body)) → map trees.view_method methods ≡ printed_methods (view_class class.now).methods bodies → IsClassText (view_class class.now) bodies (view_unit unit)) }
     ensures simple { IfOk result (λ unit. All (λ letter. letter ≢ 47) unit.name) }
 {
     let name = split_name(alloc, &class.this_class)?;
-    let mut methods = Items::new(alloc);
-    methods.push(MethodText {
-        flags: method.flags & METHOD_BITS,
-        name: method.name.copy(alloc)?,
-        descriptor: method.descriptor.copy(alloc)?,
-        thrown: copy_names(alloc, method.thrown.as_slice())?,
-        body: Some(body),
-    })?;
     Ok(Unit {
         package: name.package,
         flags: shown_flags(class.flags),

@@ -5,7 +5,10 @@
 
 mod answer;
 mod class_text;
+mod declared;
+mod ints;
 mod loading;
+mod methods;
 mod program;
 mod report;
 mod status;

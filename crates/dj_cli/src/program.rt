@@ -9,7 +9,7 @@ ghost use Rattle.dj_outer.specs.Sink.{TakesPrefix};
 ghost use Rattle.dj_cli.specs.Words.{order_of};
 ghost use Rattle.dj_cli.specs.Status.{OnClean, OnRefused, IfUsage, IfReadFault, OnTextFault, OnReportFault, IfTooMuch, OnAllWritten, MatchEnd};
 ghost use Rattle.dj_cli.specs.Report.{Line, line_text};
-ghost use Rattle.dj_cli.specs.Program.{AnswersEach, first_answers, IsOutput, first_output, due_names, WroteAll, WroteFrontOfSome, ReadFails, IsTooMuch, AsksFront, TellsLine, CutsLine, LastLine};
+ghost use Rattle.dj_cli.specs.Program.{AnswersEach, first_answers, IsOutput, first_output, due_names, WroteAll, WroteTextFront, WroteReportFront, ReadFails, IsTooMuch, AsksFront, TellsLine, CutsLine, LastLine};
 ghost use Rattle.dj_cli.specs.Loading.{contents_of};
 ghost use Rattle.dj_cli.specs.Run.{EndsSo};
 
@@ -49,9 +49,9 @@ fn print_files<F: Files, T: Sink, P: Sink>(
     ensures much { IfTooMuch result (IsTooMuch (F.held files.old) (map string_bytes named.now)) }
     ensures much_line { IfTooMuch result (λ place. TellsLine (Line.Much place) (T.taken text.old) (T.taken text.new) (P.taken report.old) (P.taken report.new)) }
     ensures text_rose { OnTextFault result (Rose (T.faults text.old) (T.faults text.new)) }
-    ensures text_fault { OnTextFault result (IfSome (F.held files.old) (λ held. WroteFrontOfSome (first_output held (map string_bytes named.now)) (T.taken text.old) (T.taken text.new) (P.taken report.old) (P.taken report.new))) }
+    ensures text_fault { OnTextFault result (IfSome (F.held files.old) (λ held. WroteTextFront (first_output held (map string_bytes named.now)) (length (map string_bytes named.now)) (T.taken text.old) (T.taken text.new) (P.taken report.old) (P.taken report.new))) }
     ensures report_rose { OnReportFault result (Rose (P.faults report.old) (P.faults report.new)) }
-    ensures report_fault { OnReportFault result (IfSome (F.held files.old) (λ held. WroteFrontOfSome (first_output held (map string_bytes named.now)) (T.taken text.old) (T.taken text.new) (P.taken report.old) (P.taken report.new))
+    ensures report_fault { OnReportFault result (IfSome (F.held files.old) (λ held. WroteReportFront (first_output held (map string_bytes named.now)) (length (map string_bytes named.now)) (T.taken text.old) (T.taken text.new) (P.taken report.old) (P.taken report.new))
         ⊎ ((line : Line) × LastLine (Ok (map string_bytes named.now)) (F.held files.old) (F.asked files.old) (F.asked files.new) (F.faults files.old) (F.faults files.new) line × CutsLine line (T.taken text.old) (T.taken text.new) (P.taken report.old) (P.taken report.new))) }
 
     // What the call asks for and leaves.
@@ -85,9 +85,9 @@ fn tell<T: Sink, P: Sink>(
     ensures clean { OnClean result (WroteAll (AnswersEach (map string_bytes named.now) (contents_of contents.now)) (T.taken text.old) (T.taken text.new) (P.taken report.old) (P.taken report.new) false) }
     ensures refused { OnRefused result (WroteAll (AnswersEach (map string_bytes named.now) (contents_of contents.now)) (T.taken text.old) (T.taken text.new) (P.taken report.old) (P.taken report.new) true) }
     ensures text_rose { OnTextFault result (Rose (T.faults text.old) (T.faults text.new)) }
-    ensures text_fault { OnTextFault result (WroteFrontOfSome (first_answers (map string_bytes named.now) (contents_of contents.now)) (T.taken text.old) (T.taken text.new) (P.taken report.old) (P.taken report.new)) }
+    ensures text_fault { OnTextFault result (WroteTextFront (first_answers (map string_bytes named.now) (contents_of contents.now)) (length (map string_bytes named.now)) (T.taken text.old) (T.taken text.new) (P.taken report.old) (P.taken report.new)) }
     ensures report_rose { OnReportFault result (Rose (P.faults report.old) (P.faults report.new)) }
-    ensures report_fault { OnReportFault result (WroteFrontOfSome (first_answers (map string_bytes named.now) (contents_of contents.now)) (T.taken text.old) (T.taken text.new) (P.taken report.old) (P.taken report.new)) }
+    ensures report_fault { OnReportFault result (WroteReportFront (first_answers (map string_bytes named.now) (contents_of contents.now)) (length (map string_bytes named.now)) (T.taken text.old) (T.taken text.new) (P.taken report.old) (P.taken report.new)) }
     ensures no_other { MatchEnd result ⊤ ⊤ (λ _. ⊥) (λ _. ⊥) ⊤ ⊤ (λ _. ⊥) }
 {
     match tell_files(alloc, named, contents, text, report) {
@@ -123,10 +123,11 @@ pub fn run<F: Files, T: Sink, P: Sink>(
     ensures read_line { IfReadFault result (λ place. TellsLine (Line.Read place) (T.taken text.old) (T.taken text.new) (P.taken report.old) (P.taken report.new)) }
     ensures much { IfTooMuch result (IsTooMuch (F.held files.old) (due_names (map string_bytes words.now))) }
     ensures much_line { IfTooMuch result (λ place. TellsLine (Line.Much place) (T.taken text.old) (T.taken text.new) (P.taken report.old) (P.taken report.new)) }
+    ensures text_ordered { OnTextFault result (IsOk (order_of (map string_bytes words.now))) }
     ensures text_rose { OnTextFault result (Rose (T.faults text.old) (T.faults text.new)) }
-    ensures text_fault { OnTextFault result (IfSome (F.held files.old) (λ held. WroteFrontOfSome (first_output held (due_names (map string_bytes words.now))) (T.taken text.old) (T.taken text.new) (P.taken report.old) (P.taken report.new))) }
+    ensures text_fault { OnTextFault result (IfSome (F.held files.old) (λ held. WroteTextFront (first_output held (due_names (map string_bytes words.now))) (length (due_names (map string_bytes words.now))) (T.taken text.old) (T.taken text.new) (P.taken report.old) (P.taken report.new))) }
     ensures report_rose { OnReportFault result (Rose (P.faults report.old) (P.faults report.new)) }
-    ensures report_fault { OnReportFault result (IfSome (F.held files.old) (λ held. WroteFrontOfSome (first_output held (due_names (map string_bytes words.now))) (T.taken text.old) (T.taken text.new) (P.taken report.old) (P.taken report.new))
+    ensures report_fault { OnReportFault result (IfSome (F.held files.old) (λ held. WroteReportFront (first_output held (due_names (map string_bytes words.now))) (length (due_names (map string_bytes words.now))) (T.taken text.old) (T.taken text.new) (P.taken report.old) (P.taken report.new))
         ⊎ ((line : Line) × LastLine (order_of (map string_bytes words.now)) (F.held files.old) (F.asked files.old) (F.asked files.new) (F.faults files.old) (F.faults files.new) line × CutsLine line (T.taken text.old) (T.taken text.new) (P.taken report.old) (P.taken report.new))) }
 
     // What the call asks for and leaves.

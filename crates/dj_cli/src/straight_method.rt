@@ -1,91 +1,61 @@
-//! The body of a straight method.
+//! Whether a method is straight, and the text of one that is.
 
-ghost use Rattle.std.specs.Prelude.{◌≡◌, ◌<◌, ◌^◌, ℕ, replicate, Some, IfOk, IfSome, IfNone, IsTrue, ◌↔◌, All, length};
-ghost use Rattle.std.specs.Option.{option_map};
+ghost use Rattle.std.specs.Prelude.{◌≡◌, ◌<◌, ◌^◌, List, ◌∷◌, [], ◌++◌, replicate, Some, IfOk, OnOk, IsTrue, ◌↔◌, length};
 ghost use Rattle.dj_names.specs.Types as types;
-ghost use Rattle.dj_names.specs.Types.{view_descriptor, view_type, view_types};
-ghost use Rattle.dj_syntax.specs.Trees as trees;
+ghost use Rattle.dj_names.specs.Types.{view_descriptor};
 ghost use Rattle.dj_syntax.specs.Trees.{view_body, view_exp};
+ghost use Rattle.dj_syntax.specs.Trees as trees;
+ghost use Rattle.dj_syntax.specs.UnitText.{parameters_of};
 ghost use Rattle.dj_syntax.specs.WellFormed.{IsWellFormedExp};
+ghost use Rattle.dj_class.specs.ResolvedClass.{MethodOf};
 ghost use Rattle.dj_class.specs.FirstForm.{view_class, view_method};
-ghost use Rattle.dj_cli.specs.StraightMethod.{IsBodyOf, IsStraightMethod, IsStraightContent};
+ghost use Rattle.dj_cli.specs.DeclaredMethods.{Holds};
+ghost use Rattle.dj_cli.specs.StraightMethod.{IsBodyOf, IsDeclared};
+ghost use Rattle.dj_cli.specs.Judged.{HasPlainHead, IsJudged, IsJudgedContent, IfStraight, IsTextOf};
 
+use crate::declared::Declared;
+use crate::ints::answers_int;
 use dj_class::{ClassFile, CodeContent, Entry, Method, has_attribute, read_content};
 use dj_method::{Rebuilt, straight_body};
-use dj_names::{Descriptor, Items, JType, copy_names, is_identifier};
-use dj_syntax::{Body, Exp, Stm};
+use dj_names::{Items, copy_names, is_identifier};
+use dj_syntax::{Body, Exp, MethodText, Stm};
 use std::alloc::{AllocError, Global};
 
 /// The flags that the text of a method in a class shows (JVMS 4.6).
-pub const METHOD_BITS: u16 = 0x053f;
+const METHOD_BITS: u16 = 0x053f;
 
-/// Whether a type is int.
-fn is_int(kind: &JType) -> bool
-    ensures int { IsTrue result ↔ (view_type kind.now ≡ types.Int) }
-{
-    matches!(kind, JType::Int)
+/// What is found of a method.
+#[derive(Debug, Drop)]
+pub enum Judged {
+    /// It returns this expression.
+    Straight(Exp),
+    /// It isn't straight at this offset of its code.
+    NotYet(u32),
 }
 
-/// Whether a result is int.
-fn is_int_result(kind: &Option<JType>) -> bool
-    ensures int { IsTrue result ↔ (option_map view_type kind.now ≡ Some types.Int) }
+/// Whether the head of a method is that of a straight one, its parameters aside.
+fn has_plain_head(method: &Method) -> bool
+    ensures plain { IsTrue result ↔ HasPlainHead (view_method method.now) }
 {
-    match kind {
-        Some(kind) => is_int(kind),
-        None => false,
-    }
+    is_identifier(&method.name) && method.thrown.is_empty() && answers_int(&method.descriptor)
 }
 
-/// Whether all types are int.
-fn are_ints(parameters: &[JType]) -> bool
-    ensures ints { IsTrue result ↔ All (λ kind. view_type kind ≡ types.Int) parameters.now }
-{
-    parameters.iter().all(is_int)
-}
-
-/// How many types there are, where all are int.
-fn int_count(parameters: &[JType]) -> Option<usize>
-    ensures some { IfSome result (λ count. view_types parameters.now ≡ replicate count types.Int) }
-    ensures none { IfNone result ((count : ℕ) → view_types parameters.now ≡ replicate count types.Int → ⊥) }
-{
-    if are_ints(parameters) {
-        Some(parameters.len())
-    } else {
-        None
-    }
-}
-
-/// How many parameters a descriptor has, where all of them and the result are ints.
-fn int_parameters(descriptor: &Descriptor) -> Option<usize>
-    ensures some { IfSome result (λ count. view_descriptor descriptor.now ≡ types.Method (replicate count types.Int) (Some types.Int)) }
-    ensures none { IfNone result ((count : ℕ) → view_descriptor descriptor.now ≡ types.Method (replicate count types.Int) (Some types.Int) → ⊥) }
-{
-    match descriptor {
-        Descriptor::Field(_) => None,
-        Descriptor::Method { parameters, result } if is_int_result(result) => {
-            int_count(parameters.as_slice())
-        }
-        Descriptor::Method { .. } => None,
-    }
-}
-
-/// The expression that the content of a Code attribute returns, where it is straight.
-fn content_expression(
+/// What is found of the content of a Code attribute.
+fn judge_content(
     alloc: Global,
     pool: &[Entry],
     content: &CodeContent,
     parameters: usize,
-) -> Result<Option<Exp>, AllocError>
+) -> Result<Judged, AllocError>
     requires short { length content.now.code < 2 ^ 32 }
-    ensures some { IfOk result (λ found. IfSome found (λ exp. IsStraightContent pool.now parameters content.now (view_exp exp))) }
-    ensures none { IfOk result (λ found. IfNone found ((exp : trees.Exp) → IsStraightContent pool.now parameters content.now exp → ⊥)) }
-    ensures fits { IfOk result (λ found. IfSome found (λ exp. IsWellFormedExp (view_exp exp))) }
+    ensures judged { IfOk result (IsJudgedContent pool.now parameters content.now) }
+    ensures fits { IfOk result (λ judged. IfStraight judged IsWellFormedExp) }
 {
     if !content.handlers.is_empty()
         || has_attribute(pool, content.attributes.as_slice(), "StackMapTable")
         || parameters > usize::from(content.max_locals)
     {
-        return Ok(None);
+        return Ok(Judged::NotYet(0));
     }
     match straight_body(
         alloc,
@@ -93,35 +63,53 @@ fn content_expression(
         content.max_stack,
         parameters,
     )? {
-        Rebuilt::Tree(exp) => Ok(Some(exp)),
-        Rebuilt::Breaks(_) => Ok(None),
+        Rebuilt::Tree(exp) => Ok(Judged::Straight(exp)),
+        Rebuilt::Breaks(pc) => Ok(Judged::NotYet(pc)),
     }
 }
 
-/// The expression that a method returns, where it is straight.
-pub fn straight_expression(
+/// What is found of a method of so many ints, the first with its name that takes as many.
+fn judge_first(
     alloc: Global,
     pool: &[Entry],
     method: &Method,
-) -> Result<Option<Exp>, AllocError>
-    ensures some { IfOk result (λ found. IfSome found (λ exp. IsStraightMethod pool.now (view_method method.now) (view_exp exp))) }
-    ensures none { IfOk result (λ found. IfNone found ((exp : trees.Exp) → IsStraightMethod pool.now (view_method method.now) exp → ⊥)) }
-    ensures fits { IfOk result (λ found. IfSome found (λ exp. IsWellFormedExp (view_exp exp))) }
+    parameters: usize,
+) -> Result<Judged, AllocError>
+    requires ints { parameters_of (view_descriptor method.now.descriptor) ≡ replicate parameters types.Int }
+    ensures judged { IfOk result (λ judged. (before : List MethodOf) → (¬ IsDeclared before method.now.name (replicate parameters types.Int)) → IsJudged pool.now before (view_method method.now) judged) }
+    ensures fits { IfOk result (λ judged. IfStraight judged IsWellFormedExp) }
 {
-    if !is_identifier(&method.name) || !method.thrown.is_empty() {
-        return Ok(None);
+    if !has_plain_head(method) {
+        return Ok(Judged::NotYet(0));
     }
-    let (Some(parameters), Some(code)) = (int_parameters(&method.descriptor), &method.code) else {
-        return Ok(None);
+    let Some(code) = &method.code else {
+        return Ok(Judged::NotYet(0));
     };
     match read_content(alloc, code.as_slice())? {
-        Some(content) => content_expression(alloc, pool, &content, parameters),
-        None => Ok(None),
+        Some(content) => judge_content(alloc, pool, &content, parameters),
+        None => Ok(Judged::NotYet(0)),
+    }
+}
+
+/// What is found of a method, where the table holds those before it; it is put into the table.
+pub fn judge<'a>(
+    alloc: Global,
+    pool: &[Entry],
+    declared: &mut Declared<'a>,
+    method: &'a Method,
+) -> Result<Judged, AllocError>
+    ensures judged { IfOk result (λ judged. (before : List MethodOf) → Holds declared.old before → IsJudged pool.now before (view_method method.now) judged) }
+    ensures fits { IfOk result (λ judged. IfStraight judged IsWellFormedExp) }
+    ensures declared { OnOk result ((before : List MethodOf) → Holds declared.old before → Holds declared.new (before ++ view_method method.now ∷ [])) }
+{
+    match declared.admit(method)? {
+        Some(parameters) => judge_first(alloc, pool, method, parameters),
+        None => Ok(Judged::NotYet(0)),
     }
 }
 
 /// The body that returns an expression, with the head of its method.
-pub fn returning_body(
+fn returning_body(
     alloc: Global,
     class: &ClassFile,
     method: &Method,
@@ -138,5 +126,24 @@ pub fn returning_body(
         descriptor: method.descriptor.copy(alloc)?,
         thrown: copy_names(alloc, method.thrown.as_slice())?,
         statements,
+    })
+}
+
+/// The text of a method that returns an expression.
+pub fn returning_text(
+    alloc: Global,
+    class: &ClassFile,
+    method: &Method,
+    exp: Exp,
+) -> Result<MethodText, AllocError>
+    ensures text { IfOk result (λ text. IsTextOf (view_class class.now) (view_method method.now) (view_exp exp) (trees.view_method text)) }
+{
+    let body = returning_body(alloc, class, method, exp)?;
+    Ok(MethodText {
+        flags: method.flags & METHOD_BITS,
+        name: method.name.copy(alloc)?,
+        descriptor: method.descriptor.copy(alloc)?,
+        thrown: copy_names(alloc, method.thrown.as_slice())?,
+        body: Some(body),
     })
 }

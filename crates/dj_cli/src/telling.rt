@@ -8,8 +8,8 @@ ghost use Rattle.dj_outer.specs.Sink.{TakesPrefix};
 ghost use Rattle.dj_cli.specs.Answer.{IsAnswer};
 ghost use Rattle.dj_cli.specs.AnswerView.{text_of};
 ghost use Rattle.dj_cli.specs.Loading.{contents_of};
-ghost use Rattle.dj_cli.specs.Program.{AnswersEach, first_answers, WroteAll, WroteFront, WroteFrontOfSome};
-ghost use Rattle.dj_cli.specs.Telling.{StoppedTelling};
+ghost use Rattle.dj_cli.specs.Program.{AnswersEach, first_answers, WroteAll, WroteTextFront, WroteReportFront};
+ghost use Rattle.dj_cli.specs.Telling.{StoppedTelling, StopsInText, StopsInLines};
 
 use crate::answer::{Printed, answer_file};
 use dj_outer::{Failed, Sink};
@@ -82,7 +82,7 @@ fn tell_file<T: Sink, P: Sink>(
     report: &mut P,
 ) -> Result<bool, TellStop>
     ensures told { IfOk result (WroteAll (IsAnswer path.now bytes.now) (T.taken text.old) (T.taken text.new) (P.taken report.old) (P.taken report.new)) }
-    ensures front { IfErr result (λ stop. StoppedTelling stop (WroteFront (IsAnswer path.now bytes.now) (T.taken text.old) (T.taken text.new) (P.taken report.old) (P.taken report.new)) (WroteFront (IsAnswer path.now bytes.now) (T.taken text.old) (T.taken text.new) (P.taken report.old) (P.taken report.new))) }
+    ensures front { IfErr result (λ stop. StoppedTelling stop (StopsInText path.now bytes.now (T.taken text.old) (T.taken text.new) (P.taken report.old) (P.taken report.new)) (StopsInLines path.now bytes.now (T.taken text.old) (T.taken text.new) (P.taken report.old) (P.taken report.new))) }
     ensures failed { IfErr result (λ stop. StoppedTelling stop (Rose (T.faults text.old) (T.faults text.new)) (Rose (P.faults report.old) (P.faults report.new))) }
 
     // What the call leaves.
@@ -109,7 +109,7 @@ pub fn tell_files<T: Sink, P: Sink>(
 ) -> Result<bool, TellStop>
     requires number { length contents.now ≡ length named.now }
     ensures told { IfOk result (WroteAll (AnswersEach (map string_bytes named.now) (contents_of contents.now)) (T.taken text.old) (T.taken text.new) (P.taken report.old) (P.taken report.new)) }
-    ensures front { IfErr result (λ stop. StoppedTelling stop (WroteFrontOfSome (first_answers (map string_bytes named.now) (contents_of contents.now)) (T.taken text.old) (T.taken text.new) (P.taken report.old) (P.taken report.new)) (WroteFrontOfSome (first_answers (map string_bytes named.now) (contents_of contents.now)) (T.taken text.old) (T.taken text.new) (P.taken report.old) (P.taken report.new))) }
+    ensures front { IfErr result (λ stop. StoppedTelling stop (WroteTextFront (first_answers (map string_bytes named.now) (contents_of contents.now)) (length (map string_bytes named.now)) (T.taken text.old) (T.taken text.new) (P.taken report.old) (P.taken report.new)) (WroteReportFront (first_answers (map string_bytes named.now) (contents_of contents.now)) (length (map string_bytes named.now)) (T.taken text.old) (T.taken text.new) (P.taken report.old) (P.taken report.new))) }
     ensures failed { IfErr result (λ stop. StoppedTelling stop (Rose (T.faults text.old) (T.faults text.new)) (Rose (P.faults report.old) (P.faults report.new))) }
 
     // What the call leaves.

@@ -1,4 +1,7 @@
-//! The whole program over files and sinks in memory: the worked rows, and each answer once.
+//! The whole program over files and sinks in memory: classes that are printed, and each other answer.
+
+mod methods;
+
 use crate::{Status, UsageKind, run};
 use dj_outer::{MemoryFiles, MemorySink};
 use std::alloc::{AllocError, Global};
@@ -18,8 +21,18 @@ const DIFFERENCE: &[u8] = &[
 const TEXT: &str =
     "// C.java\npublic class C {\n    static int f(int p0, int p1) {\n        return p0 - p1;\n    }\n}\n";
 
-/// Runs the program on these words where there is one file, `C.class`, with these bytes.
+/// Runs the program on `C.class`, a file with these bytes.
 fn run_on(
+    alloc: Global,
+    bytes: &[u8],
+    text: &mut MemorySink,
+    report: &mut MemorySink,
+) -> Result<Status, AllocError> {
+    run_words(alloc, &["decompile", "C.class"], bytes, text, report)
+}
+
+/// Runs the program on these words where there is one file, `C.class`, with these bytes.
+fn run_words(
     alloc: Global,
     words: &[&str],
     bytes: &[u8],
@@ -43,8 +56,7 @@ fn a_class_with_a_straight_method_is_printed(rt: HostRuntime) -> Result<(), Fail
     let alloc = rt.alloc();
     let mut text = MemorySink::new(alloc, 1000, Vec::new(alloc))?;
     let mut report = MemorySink::new(alloc, 1000, Vec::new(alloc))?;
-    let words = ["decompile", "C.class"];
-    let status = run_on(alloc, &words, DIFFERENCE, &mut text, &mut report)?;
+    let status = run_on(alloc, DIFFERENCE, &mut text, &mut report)?;
     assert_eq!(rt; status, Status::Clean);
     assert_eq!(rt; status.exit_code(), 0);
     assert_eq!(rt; text.taken(), TEXT.as_bytes());
@@ -57,8 +69,7 @@ fn a_text_that_fails_at_its_second_call_holds_one_line(rt: HostRuntime) -> Resul
     let alloc = rt.alloc();
     let mut text = MemorySink::new(alloc, 1000, vec![in alloc; 1u64]?)?;
     let mut report = MemorySink::new(alloc, 1000, Vec::new(alloc))?;
-    let words = ["decompile", "C.class"];
-    let status = run_on(alloc, &words, DIFFERENCE, &mut text, &mut report)?;
+    let status = run_on(alloc, DIFFERENCE, &mut text, &mut report)?;
     assert_eq!(rt; status, Status::TextFault);
     assert_eq!(rt; text.taken(), "// C.java\n".as_bytes());
     assert_eq!(rt; report.taken(), "".as_bytes());
@@ -72,8 +83,7 @@ fn other_files_have_one_line(rt: HostRuntime) -> Result<(), Fail> {
     for bytes in [b"".as_slice(), b"not a class", half, &[0; 40]] {
         let mut text = MemorySink::new(alloc, 1000, Vec::new(alloc))?;
         let mut report = MemorySink::new(alloc, 1000, Vec::new(alloc))?;
-        let words = ["decompile", "C.class"];
-        let status = run_on(alloc, &words, bytes, &mut text, &mut report)?;
+        let status = run_on(alloc, bytes, &mut text, &mut report)?;
         assert_eq!(rt; status, Status::Refused);
         assert_eq!(rt; text.taken(), "".as_bytes());
         assert_eq!(rt; report.taken(), "C.class notyet\n".as_bytes());
@@ -109,7 +119,7 @@ fn words_and_missing_files_have_one_line(rt: HostRuntime) -> Result<(), Fail> {
     for (words, wanted, line) in cases {
         let mut text = MemorySink::new(alloc, 1000, Vec::new(alloc))?;
         let mut report = MemorySink::new(alloc, 1000, Vec::new(alloc))?;
-        let status = run_on(alloc, words.as_slice(), DIFFERENCE, &mut text, &mut report)?;
+        let status = run_words(alloc, words.as_slice(), DIFFERENCE, &mut text, &mut report)?;
         assert_eq!(rt; status, wanted);
         assert_eq!(rt; text.taken(), "".as_bytes());
         assert_eq!(rt; report.taken(), line.as_bytes());

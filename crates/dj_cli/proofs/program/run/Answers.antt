@@ -1,4 +1,4 @@
-use Rattle.std.proofs.Common.{◌≡◌, ◌∙◌, Ok, refl, sym, ap, map, inr}
+use Rattle.std.proofs.Common.{◌∙◌, Ok, refl, sym, ap, map, inr}
 use Rattle.std.specs.String.{string_bytes}
 use Rattle.dj_cli.specs.declared.status.Status.TheVariants.{Usage}
 use Rattle.dj_cli.specs.Report as lines

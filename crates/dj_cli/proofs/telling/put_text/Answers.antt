@@ -1,7 +1,4 @@
-use Rattle.std.proofs.Common.{◌≡◌, ap}
 use Rattle.std.proofs.lemmas.Result.{on_err_weaker}
-use Rattle.std.specs.Io.KnownBytes.{append_known}
-use Rattle.dj_outer.specs.Sink.{TakesPrefix}
 use Rattle.dj_cli.proofs.TellingLemmas.{front_then}
 use Rattle.dj_cli.proofs.telling.put_text.Goals as goal
 

@@ -1,23 +1,23 @@
-use Rattle.std.proofs.Common.{◌≡◌, ◌==◌, length, sym, ap, ◌∙◌}
+use Rattle.std.proofs.Common.{◌==◌, length, refl, sym, ap, ◌∙◌}
 use Rattle.dj_cli.specs.AnswerView.{text_of}
-use Rattle.dj_cli.proofs.TellingLemmas.{known_nothing, front_whole, refused_told}
+use Rattle.dj_cli.proofs.TellingLemmas.{refused_told}
 use Rattle.dj_cli.proofs.telling.tell_file.Goals as goal
 
 pub returns-in-Err-clause-front : goal.returns-in-Err-clause-front
 returns-in-Err-clause-front g c = record {
   text = text_of c.in_ok-answer.answer.printed;
-  report = c.in_ok-answer.answer.report.items;
+  lines = c.in_ok-answer.answer.report.items;
   answer = c.in_ok-answer.ensures.answer;
   text_taken = c.in-Err.ensures.front;
-  report_taken = (0, known_nothing (g.P.Sink.taken c.args.report.now));
+  report_kept = refl;
 }
 
 pub returns-in-Err-put_lines-clause-front : goal.returns-in-Err-put_lines-clause-front
 returns-in-Err-put_lines-clause-front g c = record {
   text = text_of c.in_ok-answer.answer.printed;
-  report = c.in_ok-answer.answer.report.items;
+  lines = c.in_ok-answer.answer.report.items;
   answer = c.in_ok-answer.ensures.answer;
-  text_taken = front_whole (g.T.Sink.taken c.args.text.now) (g.T.Sink.taken c.put_printed.new.text) (text_of c.in_ok-answer.answer.printed) c.in_default.ensures.ok;
+  text_taken = c.in_default.ensures.ok;
   report_taken = rw c.as_slice.ensures.value at c.in-Err-put_lines.ensures.front;
 }
 

@@ -1,7 +1,7 @@
-use Rattle.std.proofs.Common.{◌≡◌, ◌+◌, ◌<◌, length, map, take, arith}
+use Rattle.std.proofs.Common.{◌<◌, length, map, arith}
 use Rattle.std.specs.String.{string_bytes}
+use Rattle.std.proofs.lemmas.List.{length-map}
 use Rattle.std.proofs.lemmas.Result.{err_from_is_err_and}
-use Rattle.dj_cli.specs.Answer.{IsAnswer}
 use Rattle.dj_cli.specs.Loading.{contents_of}
 use Rattle.dj_cli.proofs.LoadingLemmas.{take_map_more}
 use Rattle.dj_cli.proofs.TellingLemmas.{told_more, stops_telling}
@@ -18,7 +18,7 @@ returns-in_err-one-clause-front g c =
     let more_contents = take_map_more (λ bytes. bytes.items) contents i c.index-contents-place.result in_contents c.index-contents-place.is in
     let p = err_from_is_err_and c.from_residual.result c.from_residual.ensures.1 in
     rw (p.1, p.2)
-    (stops_telling c.in_err-one.field-0.0 (map string_bytes named) (contents_of contents) i (string_bytes c.index-named-place.result) c.index-contents-place.result.items (g.T.Sink.taken c.args.text.now) (g.T.Sink.taken c.loop-place.text) (g.T.Sink.taken c.tell_file.new.text) (g.P.Sink.taken c.args.report.now) (g.P.Sink.taken c.loop-place.report) (g.P.Sink.taken c.tell_file.new.report) c.loop-place.refused more_names more_contents c.loop-place.invariant.told (rw (c.as_str.ensures.value, c.as_slice.ensures.value) at c.in_err-one.ensures.front))
+    (stops_telling c.in_err-one.field-0.0 (map string_bytes named) (contents_of contents) i (string_bytes c.index-named-place.result) c.index-contents-place.result.items (g.T.Sink.taken c.args.text.now) (g.T.Sink.taken c.loop-place.text) (g.T.Sink.taken c.tell_file.new.text) (g.P.Sink.taken c.args.report.now) (g.P.Sink.taken c.loop-place.report) (g.P.Sink.taken c.tell_file.new.report) c.loop-place.refused (rw length-map in_names) more_names more_contents c.loop-place.invariant.told (rw (c.as_str.ensures.value, c.as_slice.ensures.value) at c.in_err-one.ensures.front))
 
 pub loop-place-preserved : goal.loop-place-preserved
 loop-place-preserved g c =

@@ -1,4 +1,4 @@
-use Rattle.std.proofs.Common.{◌≡◌, ◌≤◌, map, take}
+use Rattle.std.proofs.Common.{◌≤◌, map}
 use Rattle.std.specs.String.{string_bytes}
 use Rattle.dj_cli.specs.Loading.{contents_of}
 use Rattle.dj_cli.specs.Program.{first_answers, WroteAll}
