@@ -1,6 +1,9 @@
 //! Descriptors as Java's own classes are asked about them, with their parts.
 use crate::{answer, units_of};
-use dj_names::{Descriptor, JType, Units, is_identifier, read_descriptor};
+use dj_names::{
+    ClassMembers, Descriptor, Items, JType, Members, MethodHead, Units, is_identifier,
+    read_descriptor,
+};
 use std::test::Fail;
 
 #[test]
@@ -18,6 +21,30 @@ fn a_method_descriptor_has_its_parts(rt: HostRuntime) -> Result<(), Fail> {
         return Err(Fail::new("other parameters"));
     };
     assert!(rt; matches!(element.get(), JType::Int));
+    Ok(())
+}
+
+#[test]
+fn members_are_copied(rt: HostRuntime) -> Result<(), Fail> {
+    let alloc = rt.alloc();
+    let mut methods = Items::new(alloc);
+    methods.push(MethodHead {
+        flags: 8,
+        name: Units::from_slice(alloc, &[102])?,
+        descriptor: Descriptor::Field(JType::Int),
+        thrown: Items::new(alloc),
+    })?;
+    let mut classes = Items::new(alloc);
+    classes.push(ClassMembers {
+        fields: Items::new(alloc),
+        methods,
+        named: Items::new(alloc),
+    })?;
+    let copy = Members { classes }.copy(alloc)?;
+    for class in copy.classes.as_slice() {
+        assert_eq!(rt; class.methods.len(), 1);
+    }
+    assert_eq!(rt; copy.classes.len(), 1);
     Ok(())
 }
 

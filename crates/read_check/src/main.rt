@@ -1,0 +1,47 @@
+//! Reads a text that `decompile` printed, and tells whether its unit is read back: `read`, `misread` or `no text`.
+//! It stands on `dj_read` for the reader, and on `dj_outer` for files.
+//! No layer stands above it: `bench/first_path` runs it on large texts.
+#![tactic(auto)]
+
+use dj_outer::{DiskFiles, Files, Loaded};
+use dj_read::{ReadUnitFault, read_unit};
+use std::alloc::{AllocError, Global};
+use std::env;
+
+#[cfg(test)]
+mod tests;
+
+/// The most bytes that a text may have.
+const MOST_BYTES: usize = 1 << 30;
+
+/// The lines behind the first one, which names the file that the text belongs in.
+fn unit_text(text: &[u8]) -> &[u8] {
+    match text.iter().position(|byte| *byte == b'\n') {
+        Some(end) => &text[end + 1..],
+        None => &[],
+    }
+}
+
+/// What is told of a text.
+fn answer(alloc: Global, text: &[u8]) -> Result<&'static str, AllocError> {
+    match read_unit(alloc, unit_text(text)) {
+        Ok(_) => Ok("read"),
+        Err(ReadUnitFault::Misread) => Ok("misread"),
+        Err(ReadUnitFault::Memory(error)) => Err(error),
+    }
+}
+
+fn main(rt: HostRuntime) -> anyhow::Result<()> {
+    let alloc = rt.alloc();
+    let words: Vec<String> = env::args(&rt)?.collect(alloc)?;
+    let mut files = DiskFiles::new(&rt);
+    let told = match words.as_slice() {
+        [_, name] => match files.load(alloc, name.as_str(), MOST_BYTES) {
+            Ok(Loaded::Whole(text)) => answer(alloc, text.as_slice())?,
+            Ok(Loaded::Over) | Err(_) => "no text",
+        },
+        _ => "no text",
+    };
+    println!(rt; "{told}")?;
+    Ok(())
+}
