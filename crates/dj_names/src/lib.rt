@@ -1,6 +1,6 @@
-//! Names, types and descriptors of the Java virtual machine, as plain data that is copied to an equal value.
+//! Names, types and descriptors of the Java virtual machine as plain data, their readers and writers, and how classes stand to each other.
 //! It stands on the kit's lists and boxes that contracts see as what they hold, which it hands on.
-//! The layers above use the types, and `copy` of each, which answers an equal value.
+//! The layers above use `read_descriptor`, `read_units`, `write_units`, `is_identifier`, each of which is exact, and `copy` of each type, which answers an equal value.
 #![tactic(auto)]
 
 mod assignable;
