@@ -1,4 +1,4 @@
-//! Texts of the kinds that are printed are read back, one of two thousand nested blocks included.
+//! Each text that the tests of the crates below print is read back, that of two thousand nested blocks included.
 use crate::answer;
 use std::alloc::{AllocError, Global};
 use std::test::Fail;
@@ -11,6 +11,16 @@ public class C {
     "// C.java
 public class C {
     static int f(int p0, int p1) {
+        return p0 - p1;
+    }
+}
+",
+    "// C.java
+public class C {
+    static int f(int p0, int p1) {
+        return p0 - p1;
+    }
+    static int Code(int p0, int p1) {
         return p0 - p1;
     }
 }
@@ -71,10 +81,11 @@ fn put_line(text: &mut Vec<u8>, level: u32, line: &[u8]) -> Result<(), AllocErro
 /// The text of a method with so many blocks, each in the one before it.
 fn nested_blocks(alloc: Global, blocks: u32) -> Result<Vec<u8>, AllocError> {
     let mut text = Vec::new(alloc);
-    text.extend_from_slice(b"// C.java\nclass C {\n    static void f() {")?;
+    text.extend_from_slice(b"// C.java\npublic class C {\n    static void f() {")?;
     for block in 0..blocks {
         put_line(&mut text, block.saturating_add(2), b"{")?;
     }
+    put_line(&mut text, blocks.saturating_add(2), b"return;")?;
     for block in 0..blocks {
         put_line(
             &mut text,
