@@ -24,13 +24,7 @@ fn last_slash(units: &[u16]) -> Option<usize>
     ensures some { IfSome result (λ at. IsLastSlash at units.now) }
     ensures none { IfNone result ((k : ℕ) → k < length units.now → slice_index units.now k ≢ 47) }
 {
-    let mut last = None;
-    for (at, unit) in units.iter().enumerate() {
-        if *unit == 47 {
-            last = Some(at);
-        }
-    }
-    last
+    units.iter().rposition(|unit| *unit == 47)
 }
 
 /// The package and the simple name of a class.
