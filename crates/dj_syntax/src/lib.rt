@@ -14,6 +14,3 @@ pub use operator::Op;
 pub use statement::Stm;
 pub use unit::{Body, FieldText, MethodText, Unit};
 pub use variable::{Var, VarKind};
-
-#[cfg(test)]
-mod tests;

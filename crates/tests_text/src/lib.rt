@@ -1,0 +1,9 @@
+//! Tests of the layer of text: texts are read, copied and printed again, and other bytes are misread.
+//! It stands on `dj_names`, `dj_syntax`, `dj_print` and `dj_read`, whose public calls it makes.
+//! No layer stands above it.
+#![tactic(auto)]
+
+#[cfg(test)]
+mod misread;
+#[cfg(test)]
+mod texts;
