@@ -14,8 +14,6 @@ mod report;
 mod status;
 mod straight_method;
 mod telling;
-#[cfg(test)]
-mod tests;
 mod words;
 
 pub use program::run;

@@ -9,6 +9,3 @@ mod straight;
 
 pub use code::{Calc, Code, Constant, Instruction, Kind};
 pub use straight::{Rebuilt, straight_body};
-
-#[cfg(test)]
-mod tests;
