@@ -57,6 +57,3 @@ pub fn read_class(alloc: Global, bytes: &[u8]) -> Result<Option<ClassFile>, Allo
         Err(Stop::Memory) => Err(AllocError),
     }
 }
-
-#[cfg(test)]
-mod tests;

@@ -3,12 +3,9 @@
 //! The layer above uses the clause `Reads layout view end bytes result` of each reader.
 #![tactic(auto)]
 
-mod example;
+pub mod example;
 mod fault;
 mod parts;
 
 pub use fault::{Fault, Stop};
 pub use parts::{fault_at, run_at, u8_at, u16_at, u32_at, u64_at};
-
-#[cfg(test)]
-mod tests;

@@ -15,8 +15,6 @@ mod members;
 mod relations;
 mod shown;
 mod static_type;
-#[cfg(test)]
-mod tests;
 mod types;
 mod units;
 mod unread;

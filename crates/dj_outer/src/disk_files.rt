@@ -73,7 +73,7 @@ fn load_file<R: rt::Files>(
 }
 
 /// Reads to the end, or one byte past the limit.
-pub(crate) fn read_within<R: Read>(
+fn read_within<R: Read>(
     alloc: Global,
     reader: &mut R,
     limit: usize,

@@ -10,8 +10,6 @@ mod memory_files;
 mod memory_sink;
 mod sink;
 mod stream_sink;
-#[cfg(test)]
-mod tests;
 
 pub use disk_files::DiskFiles;
 pub use files::{Failed, Files, LoadFault, Loaded};

@@ -9,9 +9,6 @@ use std::alloc::Global;
 use std::io;
 use std::io::{BufRead, BufReader, BufWriter, Write};
 
-#[cfg(test)]
-mod tests;
-
 /// The units that pairs of bytes are, the high byte first.
 fn units_of(alloc: Global, bytes: &[u8]) -> Result<Units> {
     let mut units = Vec::new(alloc);

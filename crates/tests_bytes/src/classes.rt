@@ -1,5 +1,6 @@
-use super::*;
-use std::test::*;
+//! A class file of the first form, and files that differ from it in little.
+use dj_class::{has_attribute, read_class, read_content};
+use std::test::Fail;
 
 /// A class `C` with one static method `f`, which answers the difference of two ints.
 const FILE: [u8; 102] = [
@@ -31,26 +32,29 @@ fn a_class_of_the_first_form_is_read(rt: HostRuntime) -> Result<(), Fail> {
 }
 
 #[test]
-fn other_bytes_are_no_class(rt: HostRuntime) -> Result<(), Fail> {
-    for end in 0..FILE.len() {
-        assert!(rt; read_class(rt.alloc(), &FILE[..end])?.is_none());
+fn fewer_bytes_or_more_are_no_class(rt: HostRuntime) -> Result<(), Fail> {
+    let mut longer = [0; 103];
+    longer[..102].copy_from_slice(&FILE);
+    for end in 0..=103 {
+        assert_eq!(rt; read_class(rt.alloc(), &longer[..end])?.is_some(), end == 102, "at {end}");
     }
-    let mut trailing = Vec::from_slice(rt.alloc(), &FILE)?;
-    trailing.push(0)?;
-    assert!(rt; read_class(rt.alloc(), trailing.as_slice())?.is_none());
+    Ok(())
+}
+
+#[test]
+fn a_changed_byte_may_make_no_class(rt: HostRuntime) -> Result<(), Fail> {
     // a version, a tag, a unit, an index of the class, flags of the class and of the method
-    for (place, byte) in [
-        (7usize, 53u8),
-        (10, 3),
-        (13, 0),
-        (61, 0),
-        (59, 0x31),
-        (71, 9),
+    for (place, byte, is_class) in [
+        (7usize, 53u8, false),
+        (10, 3, false),
+        (13, 0, false),
+        (61, 0, false),
+        (59, 0x31, false),
+        (71, 9, true),
     ] {
         let mut other = FILE;
         other[place] = byte;
-        let found = read_class(rt.alloc(), &other)?;
-        assert_eq!(rt; found.is_some(), byte == 9);
+        assert_eq!(rt; read_class(rt.alloc(), &other)?.is_some(), is_class, "at {place}");
     }
     Ok(())
 }

@@ -1,0 +1,13 @@
+//! Tests of the layer of bytes through its public calls: what contracts can't say, and values from outside.
+//! It stands on the crates that it tests, so that each of them is proved once, without tests.
+//! No layer stands above it, and it has no call of its own.
+#![tactic(auto)]
+
+#[cfg(test)]
+mod classes;
+#[cfg(test)]
+mod layouts;
+#[cfg(test)]
+mod names;
+#[cfg(test)]
+mod outer;
