@@ -36,7 +36,11 @@ fn fewer_bytes_or_more_are_no_class(rt: HostRuntime) -> Result<(), Fail> {
     let mut longer = [0; 103];
     longer[..102].copy_from_slice(&FILE);
     for end in 0..=103 {
-        assert_eq!(rt; read_class(rt.alloc(), &longer[..end])?.is_some(), end == 102, "at {end}");
+        assert_eq!(rt;
+            read_class(rt.alloc(), &longer[..end])?.is_some(),
+            end == 102,
+            "at {end}"
+        );
     }
     Ok(())
 }
@@ -54,7 +58,11 @@ fn a_changed_byte_may_make_no_class(rt: HostRuntime) -> Result<(), Fail> {
     ] {
         let mut other = FILE;
         other[place] = byte;
-        assert_eq!(rt; read_class(rt.alloc(), &other)?.is_some(), is_class, "at {place}");
+        assert_eq!(rt;
+            read_class(rt.alloc(), &other)?.is_some(),
+            is_class,
+            "at {place}"
+        );
     }
     Ok(())
 }

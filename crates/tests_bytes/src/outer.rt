@@ -1,5 +1,7 @@
 //! Each implementation of files and sinks once: those in memory, and the trusted edge of the system.
-use dj_outer::{DiskFiles, Failed, Files, LoadFault, Loaded, MemoryFiles, MemorySink, Sink, StreamSink};
+use dj_outer::{
+    DiskFiles, Failed, Files, LoadFault, Loaded, MemoryFiles, MemorySink, Sink, StreamSink,
+};
 use std::io::Write;
 use std::test::Fail;
 use std::{fs, io};
@@ -102,8 +104,15 @@ fn short_writes_are_joined_and_an_error_is_a_fault(rt: HostRuntime) -> Result<()
         };
         let put = StreamSink::new(&mut writer).put("abcde".as_bytes());
         assert_eq!(rt; put.is_ok(), whole, "at {room} and {breaks_at}");
-        assert_eq!(rt; writer.taken.as_slice(), taken.as_bytes(), "at {room} and {breaks_at}");
+        assert_eq!(rt;
+            writer.taken.as_slice(),
+            taken.as_bytes(),
+            "at {room} and {breaks_at}"
+        );
     }
-    assert_eq!(rt; StreamSink::new(Vec::new(alloc)).put(&[]), Ok::<(), Failed>(()));
+    assert_eq!(rt;
+        StreamSink::new(Vec::new(alloc)).put(&[]),
+        Ok::<(), Failed>(())
+    );
     Ok(())
 }
