@@ -134,7 +134,6 @@ const TEXTS: &[&str] = &[
 ];
 
 /// The text of a copy of the unit that these bytes are read as, where they are read.
-#[tactic(auto, using(dj_print::proofs::WellFormedIsAscii::ascii_from_well_formed))]
 pub fn printed_again(alloc: Global, bytes: &[u8]) -> Result<Option<Vec<u8>>, AllocError> {
     match read_unit(alloc, bytes) {
         Ok(unit) => {
