@@ -1,6 +1,11 @@
 use Rattle.std.proofs.Common.{◌-◌, length, refl}
-use Rattle.dj_names.proofs.DescriptorLemmas.{halted}
+use Rattle.dj_names.specs.Types.{view_descriptor}
+use Rattle.dj_names.proofs.DescriptorLemmas.{only_descriptor, halted}
 use Rattle.dj_names.proofs.descriptors.read_descriptor.Goals as goal
+
+pub returns-in-Ok-clause-value : goal.returns-in-Ok-clause-value
+returns-in-Ok-clause-value c =
+    only_descriptor c.args.units.now c.as_slice-all.result.now c.new-unread.result (view_descriptor c.in-Ok.descriptor) c.new-unread.ensures.units c.as_slice-all.ensures.units c.in-Ok.ensures.ok
 
 pub returns-in-Err-Here : goal.returns-in-Err-Here
 returns-in-Err-Here c =

@@ -26,7 +26,7 @@ returns-in_err-kind-clause-stops c =
 
 pub loop-unit-preserved : goal.loop-unit-preserved
 loop-unit-preserved c =
-    rw (c.in_ok-push.ensures.items, map_push view_type c.loop-unit.parameters.items c.in_ok-kind.kind, c.words-room.ensures.words)
+    rw (c.in_ok-push.ensures.items, map_push view_type c.loop-unit.parameters.items c.in_ok-kind.kind, c.words.ensures.words)
     (ParametersRead-push (view_types c.loop-unit.parameters.items) c.loop-unit.room c.args.unread.now c.loop-unit.unread c.read_type.new.unread (view_type c.in_ok-kind.kind)
     c.loop-unit.invariant c.in_ok-kind.ensures.within c.in_ok-kind.ensures.spelled)
 
