@@ -7,14 +7,14 @@ use Rattle.dj_layout.specs.Layout.{Layout, Spells, fault_of}
 use Rattle.dj_layout.specs.Parts.{times}
 use Rattle.dj_layout.proofs.Loops.{times_more}
 use Rattle.dj_class.specs.declared.class.raw.Entry.{Entry}
-use Rattle.dj_class.specs.declared.class.raw.Member.{Member}
+use Rattle.dj_class.specs.declared.class.raw.RawMember.{RawMember}
 use Rattle.dj_class.specs.declared.class.raw.Lists.{Lists}
 use Rattle.dj_class.specs.declared.class.raw.BrokenKind.{BrokenKind}
 use Rattle.dj_class.specs.declared.class.raw.BrokenKind.TheVariants as kind
 use Rattle.dj_class.specs.declared.class.content.Handler.{Handler}
 use Rattle.dj_class.specs.declared.class.content.CodeContent.{CodeContent}
 use Rattle.dj_class.specs.CodeContent.{code, handler, content}
-use Rattle.dj_class.specs.ClassFile.{IsUnit, HasWrongUnit, u2, counted, entry, entries, attribute, member, lists}
+use Rattle.dj_class.specs.ClassFile.{IsPlainUnit, HasWrongUnit, u2, counted, entry, entries, attribute, member, lists}
 
 -- a list around one of its items
 around : (xs : List ℕ) (i : ℕ) → i < length xs → xs ≡ take i xs ++ get_or xs i 0 ∷ drop (i + 1) xs
@@ -27,7 +27,7 @@ from_wrong bytes text rest at split within =
 
 -- the first byte that is no unit, where n bytes are there
 pub wrong_unit_halts : (n end : ℕ) (bytes text rest : List ℕ) (at : ℕ) (fault : Fault BrokenKind) → length text ≡ n → bytes ≡ text ++ rest → at < length text
-    → All IsUnit (take at text) → ¬ IsUnit (get_or text at 0) → fault ≡ fault_of end (take (length bytes - at) (drop at bytes)) kind.Units → HasWrongUnit n end bytes fault
+    → All IsPlainUnit (take at text) → ¬ IsPlainUnit (get_or text at 0) → fault ≡ fault_of end (take (length bytes - at) (drop at bytes)) kind.Units → HasWrongUnit n end bytes fault
 wrong_unit_halts n end bytes text rest at fault len split within before wrong is = record {
   before = take at text;
   wrong = get_or text at 0;
@@ -59,7 +59,7 @@ four_parts : (a b c d bytes behind_a behind_b behind_c rest : List ℕ) → byte
 four_parts a b c d bytes behind_a behind_b behind_c rest p q r s = rw (p, q, r, s) (simp (append_assoc, append-nil))
 
 -- the parts of a member are there
-pub spells_member : (bytes behind_flags behind_name behind_descriptor rest : List ℕ) (m : Member)
+pub spells_member : (bytes behind_flags behind_name behind_descriptor rest : List ℕ) (m : RawMember)
     → Spells u2 bytes m.flags behind_flags → Spells u2 behind_flags m.name behind_name → Spells u2 behind_name m.descriptor behind_descriptor
     → Spells (counted attribute) behind_descriptor m.attributes rest → Spells member bytes m rest
 spells_member bytes behind_flags behind_name behind_descriptor rest m p q r s = record {
