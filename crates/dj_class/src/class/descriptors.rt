@@ -1,9 +1,8 @@
 //! The method descriptors that the entries of a pool spell, each read once (JVMS 4.3.3).
 
-ghost use Rattle.std.specs.Prelude.{List, IfOk};
-ghost use Rattle.std.specs.Option.{option_copied};
-ghost use Rattle.dj_class.specs.declared.class.raw.Entry as raw;
-ghost use Rattle.dj_class.specs.ResolvedClass.{units_at, text_at};
+ghost use Rattle.std.specs.Prelude.{◌≡◌, slice_get, IfOk};
+ghost use Rattle.std.specs.Option.{option_copied, option_flatten};
+ghost use Rattle.dj_class.specs.ResolvedClass.{units_at};
 ghost use Rattle.dj_class.specs.FirstParts.{IsReading, IsDescriptorTable};
 
 use crate::class::names::method_descriptor;
@@ -36,12 +35,9 @@ pub fn descriptor_table(
     Ok(table)
 }
 
-/// The method descriptor that the entry at an index spells, in a pool with this table.
+/// The method descriptor that the table has at an index.
 pub fn descriptor_at(table: &[Option<Descriptor>], index: u16) -> Option<&Descriptor>
-    ensures exact { (pool : List raw.Entry) → IsDescriptorTable pool table.now → IsReading (text_at pool index) (option_copied result) }
+    ensures kept { option_copied result ≡ option_flatten (slice_get table.now index) }
 {
-    match table.get(index as usize) {
-        Some(Some(descriptor)) => Some(descriptor),
-        Some(None) | None => None,
-    }
+    table.get(index as usize)?.as_ref()
 }

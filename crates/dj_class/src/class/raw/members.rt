@@ -56,7 +56,11 @@ pub fn attributes_at(
 }
 
 /// A field or a method.
-fn member_at(alloc: Global, bytes: &[u8], end: usize) -> Result<(RawMember, &[u8]), Stop<BrokenKind>>
+fn member_at(
+    alloc: Global,
+    bytes: &[u8],
+    end: usize,
+) -> Result<(RawMember, &[u8]), Stop<BrokenKind>>
     ensures reads { Reads member (λ x. (x.0, x.1.now)) end bytes.now result }
 {
     let (flags, rest) = u16_at(bytes, end, BrokenKind::Short)?;
