@@ -15,7 +15,6 @@ use Rattle.dj_layout.proofs.PartsAreExact.{exact-number, exact-run, exact-exactl
 use Rattle.dj_class.specs.declared.class.raw.BrokenKind.{BrokenKind}
 use Rattle.dj_class.specs.declared.class.raw.BrokenKind.TheVariants as kind
 use Rattle.dj_class.specs.declared.class.raw.Entry.TheVariants as entry_variants
-use Rattle.dj_class.specs.CodeContent.{handler, code, content}
 use Rattle.dj_class.specs.ClassFile.{IsPlainUnit, units, text, u2, counted, units_of, name_of, entry, entry_of, pool, sized, attribute, member, major, front, own, lists, lists_of, raw_of, magic, body, file}
 
 -- the wrong byte of a list that begins with units lies behind them
@@ -62,10 +61,10 @@ exact-units n = record {
   one_fault = λ end bytes f g p q. units_one_fault n end bytes f g p q;
 }
 
-exact-u2 : IsExact u2
+pub exact-u2 : IsExact u2
 exact-u2 = exact-number 2 kind.Short
 
-exact-counted : {A : Type 0} (item : Layout BrokenKind A) → IsExact item → IsExact (counted item)
+pub exact-counted : {A : Type 0} (item : Layout BrokenKind A) → IsExact item → IsExact (counted item)
 exact-counted item exact = exact-headed _ _ _ exact-u2 (λ n. exact-times n item exact)
 
 exact-text : IsExact text
@@ -122,22 +121,6 @@ exact-magic = exact-tested _ _ _ (exact-number 4 kind.Short)
 
 pub exact-file : IsExact file
 exact-file = exact-headed _ _ _ exact-magic (λ _. exact-body)
-
--- ---- the content of a Code attribute
-
-exact-handler : IsExact handler
-exact-handler =
-    exact-headed (λ h. h.start) _ _ exact-u2 (λ start. exact-headed (λ h. h.end) _ _ exact-u2 (λ end. exact-headed (λ h. h.target) _ _ exact-u2 (λ target.
-    exact-headed (λ h. h.class) _ _ exact-u2 (λ class. exact-exactly (record { start = start; end = end; target = target; class = class })))))
-
-exact-code : IsExact code
-exact-code = exact-headed length _ _ (exact-tested _ _ _ (exact-number 4 kind.Short)) (λ n. exact-run n kind.Short)
-
-pub exact-content : IsExact content
-exact-content =
-    exact-headed (λ c. c.max_stack) _ _ exact-u2 (λ max_stack. exact-headed (λ c. c.max_locals) _ _ exact-u2 (λ max_locals. exact-headed (λ c. c.code) _ _ exact-code (λ code.
-    exact-headed (λ c. c.handlers) _ _ (exact-counted handler exact-handler) (λ handlers. exact-headed (λ c. c.attributes) _ _ exact-attributes (λ attributes.
-    exact-exactly (record { max_stack = max_stack; max_locals = max_locals; code = code; handlers = handlers; attributes = attributes }))))))
 
 -- bytes with a fault are no spelling
 pub faulty_is_no_spelling : {A : Type 0} (layout : Layout BrokenKind A) → IsExact layout → (bytes : List ℕ) (why : Stop BrokenKind) (fault : Fault BrokenKind)

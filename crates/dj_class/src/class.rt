@@ -1,6 +1,5 @@
 //! Class files (JVMS 4): what they are, and the reader of those of the first form.
 
-mod content;
 mod descriptors;
 mod methods;
 mod names;
@@ -13,12 +12,11 @@ ghost use Rattle.std.specs.Prelude.{◌≡◌, IfOk, IfSome, IfNone};
 ghost use Rattle.dj_class.specs.ResolvedClass as spec;
 ghost use Rattle.dj_class.specs.FirstForm.{IsFirstForm, view_class};
 
-pub use content::{CodeContent, Handler, read_content};
 use dj_layout::Stop;
 use dj_names::{ClassName, Descriptor, Field, Items, Units};
 pub use pool::has_attribute;
 use raw::read_raw;
-pub use raw::{Attribute, Entry};
+pub use raw::{Attribute, BrokenKind, Entry, attributes_at};
 use resolve::class_of;
 use std::alloc::{AllocError, Global};
 
