@@ -1,10 +1,10 @@
 -- Which values a type has (JVMS 2.3, 2.4), by the headers of the classes there are.
-use Rattle.std.specs.Prelude.{◌≡◌, ℕ, ◌≤◌, pos, negsuc, ◌≤ℤ◌, List, [], ◌∷◌, Option, Some, None, IsSomeAnd, ℤ}
+use Rattle.std.specs.Prelude.{◌≡◌, ℕ, ◌≤◌, ◌==◌, Bool, true, false, not, bit_and, codes, pos, negsuc, ◌≤ℤ◌, List, [], ◌∷◌, Option, Some, None, IsSomeAnd, ℤ}
 use Rattle.dj_names.specs.declared.header.Header.{Header}
 use Rattle.dj_names.specs.Types as types
 use Rattle.dj_names.specs.Types.{JType, Boolean, Byte, Char, Short, Float, Double, Class, Array, Of}
 use Rattle.dj_names.specs.Assignable.{IsReference, IsAssignable, object_name}
-use Rattle.dj_method.specs.Values.{RefValue, Value, Int, Long, Null, Ref}
+use Rattle.dj_values.specs.Values.{RefValue, Value, Int, Long, Null, Ref}
 
 -- the least and the greatest int of a type that is kept as one
 abbrev pub int_range : JType → Option (ℤ × ℤ)
@@ -66,3 +66,34 @@ AreValuesOf headers [] [] = Unit {0}
 AreValuesOf headers [] (value ∷ values) = ⊥
 AreValuesOf headers (type ∷ types) [] = ⊥
 AreValuesOf headers (type ∷ types) (value ∷ values) = IsValueOf headers type value × AreValuesOf headers types values
+
+-- ---- what a method takes
+
+-- ACC_STATIC, 0x0008 (JVMS table 4.6-A)
+abbrev pub is_static : ℕ → Bool
+is_static flags = not (bit_and flags 0x0008 == 0)
+
+-- `this`, the first of the arguments of a method that isn't static
+abbrev pub this_of : Bool → List Value → Option Value
+this_of true arguments = None
+this_of false [] = None
+this_of false (first ∷ rest) = Some first
+
+-- the arguments of the parameters, behind `this` where there is one
+abbrev pub behind_this : Bool → List Value → List Value
+behind_this true arguments = arguments
+behind_this false [] = []
+behind_this false (first ∷ rest) = rest
+
+-- `this` is a reference whose class goes to the method's, and never null (JLS 15.8.3)
+abbrev pub IsThis : List Header → List ℕ → Value → Type 0
+IsThis headers class (Int number) = ⊥
+IsThis headers class (Long number) = ⊥
+IsThis headers class Null = ⊥
+IsThis headers class (Ref reference) = IsReferenceOf headers (Class class) reference
+
+-- the arguments of a method of a class, static or not: `this` first where it has one, then one of each parameter's type
+abbrev pub AreArguments : List Header → List ℕ → Bool → List JType → List Value → Type 0
+AreArguments headers class true parameters arguments = AreValuesOf headers parameters arguments
+AreArguments headers class false parameters [] = ⊥
+AreArguments headers class false parameters (first ∷ rest) = IsThis headers class first × AreValuesOf headers parameters rest

@@ -1,0 +1,212 @@
+-- The machine: what an instruction does, and what a bounded run of a method's code comes to (JVMS 2.6, 2.10, 2.11, 6.5).
+use Rattle.std.specs.Prelude.{ℕ, zero, suc, ◌-◌, ◌==◌, ◌&&◌, nat_le, nat_lt, Bool, true, false, if◌then◌else◌, ℤ, pos, length, replicate, List, [], ◌∷◌, ◌++◌, Option, Some, None, slice_index_or, slice_set}
+use Rattle.std.specs.Int.{w8, w16, w32, cast_signed, cast_unsigned, int_bit_and, int_wrapping_add, int_wrapping_sub, int_wrapping_mul}
+use Rattle.dj_names.specs.declared.header.Header.{Header}
+use Rattle.dj_names.specs.Types as types
+use Rattle.dj_names.specs.Types.{JType, Boolean, Byte, Char, Short, Float, Double, Class, Array, result_of, view_descriptor}
+use Rattle.dj_values.specs.Values.{RefValue, Value, Int, Long, Null, Ref, Answer, Show}
+use Rattle.dj_values.specs.Answers.{is_subclass}
+use Rattle.dj_values.specs.Outcomes.{Stop, Throws, More, Stuck, Reply, Gives, Halts, there, then_on, State, Outcome, Is, Stops, bind, outside, opening, shown}
+use Rattle.dj_code.specs.declared.code.Kind.{Kind}
+use Rattle.dj_code.specs.declared.code.Kind.TheVariants as kind
+use Rattle.dj_code.specs.declared.code.Calc.{Calc}
+use Rattle.dj_code.specs.declared.code.Calc.TheVariants as calc
+use Rattle.dj_code.specs.declared.code.Constant.TheVariants as constant
+use Rattle.dj_code.specs.declared.code.Instruction.{Instruction}
+use Rattle.dj_code.specs.declared.code.Instruction.TheVariants as op
+use Rattle.dj_code.specs.declared.code.Handler.{Handler}
+use Rattle.dj_code.specs.declared.code.Code.{Code}
+use Rattle.dj_code.specs.Instructions.{Instructions, code_from}
+
+-- ---- the locals
+
+-- a store that is read and written by slot
+pub record Slots (S : Type 0) : Type 0 where
+  pub read : S → ℕ → Option Value
+  pub write : ℕ → Value → S → S
+
+-- the locals of a method, by slot; None where nothing is, and in the second slot of a long
+abbrev pub Locals : Type 0
+Locals = List (Option Value)
+
+abbrev pub local_slots : Slots Locals
+local_slots = record { read = λ locals slot. slice_index_or locals slot None; write = λ slot value locals. slice_set locals slot (Some value) }
+
+-- ---- operations
+
+-- with an int
+abbrev pub with_int : {A : Type 0} → Value → (ℤ → Reply A) → Reply A
+with_int (Int number) next = next number
+with_int (Long number) next = Halts Stuck
+with_int Null next = Halts Stuck
+with_int (Ref reference) next = Halts Stuck
+
+-- with the two operands of an instruction, the first pushed first
+abbrev pub with_two : {A : Type 0} → List Value → (Value → Value → Reply A) → Reply A
+with_two [] next = Halts Stuck
+with_two (first ∷ []) next = Halts Stuck
+with_two (first ∷ second ∷ []) next = next first second
+with_two (first ∷ second ∷ third ∷ rest) next = Halts Stuck
+
+-- `iadd`, `isub` and `imul` keep the low 32 bits
+abbrev pub calculate : Calc → ℤ → ℤ → ℤ
+calculate calc.Add left right = int_wrapping_add w32 left right
+calculate calc.Sub left right = int_wrapping_sub w32 left right
+calculate calc.Mul left right = int_wrapping_mul w32 left right
+
+-- a value of this kind (JVMS 2.11.1)
+abbrev pub of_kind : Kind → Value → Reply Value
+of_kind kind.Int value = with_int value (λ number. Gives (Int number))
+
+-- ---- families of instructions
+
+-- how an instruction works: a strict one takes so many values from the stack, and pushes what an operation on them gives, if it gives one;
+-- others push a local, or return
+pub data Family : Type 0 where
+  Strict : ℕ → (List Value → Reply (Option Value)) → Family
+  Loads : Kind → ℕ → Family
+  Returns : Option Kind → Family
+
+-- what each instruction does
+abbrev pub meaning_of : Instruction → Family
+meaning_of (op.Push (constant.Int number)) = Strict 0 (λ operands. Gives (Some (Int number)))
+meaning_of (op.Load kind slot) = Loads kind slot
+meaning_of (op.Calc calc kind.Int) =
+    Strict 2 (λ operands. with_two operands (λ first second. with_int first (λ left. with_int second (λ right. Gives (Some (Int (calculate calc left right)))))))
+meaning_of (op.Return kind) = Returns kind
+
+-- ---- one step
+
+-- where a run is: before the first of these instructions, with a stack from the top down; or at its end
+pub data Place : Type 0 where
+  Before : Instructions → List Value → Place
+  Returned : Option Value → Place
+
+-- so many values from the stack, the topmost last, and what lies below them
+abbrev pub taken : {A : Type 0} → ℕ → List Value → List Value → (List Value → List Value → Reply A) → Reply A
+taken zero values stack next = next values stack
+taken (suc count) values [] next = Halts Stuck
+taken (suc count) values (top ∷ below) next = taken count (top ∷ values) below next
+
+-- a stack with what an operation gave on top
+abbrev pub pushed : List Value → Option Value → List Value
+pushed stack None = stack
+pushed stack (Some value) = value ∷ stack
+
+-- what a strict instruction makes of the stack
+abbrev pub strict : ℕ → (List Value → Reply (Option Value)) → List Value → Reply (List Value)
+strict count operation stack = taken count [] stack (λ operands below. then_on (operation operands) (λ given. Gives (pushed below given)))
+
+-- an int that a method returns: a narrower result keeps its low bits, a boolean the lowest (JVMS 6.5, `ireturn`)
+abbrev pub narrowed : JType → ℤ → Reply Value
+narrowed Boolean number = Gives (Int (int_bit_and number (pos 1)))
+narrowed Byte number = Gives (Int (cast_signed w8 (cast_unsigned w8 number)))
+narrowed Char number = Gives (Int (pos (cast_unsigned w16 number)))
+narrowed Short number = Gives (Int (cast_signed w16 (cast_unsigned w16 number)))
+narrowed types.Int number = Gives (Int number)
+narrowed types.Long number = Halts Stuck
+narrowed Float number = Halts Stuck
+narrowed Double number = Halts Stuck
+narrowed (Class name) number = Halts Stuck
+narrowed (Array element) number = Halts Stuck
+
+-- what a return of a value of this kind gives a method with this result
+abbrev pub result_value : Kind → JType → Value → Reply Value
+result_value kind.Int type value = with_int value (narrowed type)
+
+-- what a method with this result returns from a stack; a return of another form than its result's is stuck
+abbrev pub results : Option Kind → Option JType → List Value → Reply (Option Value)
+results None None stack = Gives None
+results None (Some type) stack = Halts Stuck
+results (Some kind) None stack = Halts Stuck
+results (Some kind) (Some type) [] = Halts Stuck
+results (Some kind) (Some type) (top ∷ below) = then_on (result_value kind type top) (λ value. Gives (Some value))
+
+-- an instruction in front of others, by its family
+abbrev pub step : {S : Type 0} → List Header → Slots S → Option JType → Family → Instructions → List Value → State S → Outcome S Place
+step headers slots result (Strict count operation) rest stack state =
+    bind (outside headers (strict count operation stack) state) (λ next. Is (Before rest next))
+step headers slots result (Loads kind slot) rest stack state =
+    bind (outside headers (then_on (there (slots.read state.store slot)) (of_kind kind)) state) (λ value. Is (Before rest (value ∷ stack)))
+step headers slots result (Returns kind) rest stack state =
+    bind (outside headers (results kind result stack) state) (λ value. Is (Returned value))
+
+-- the first of these instructions; past the last one nothing is left to run
+abbrev pub step_first : {S : Type 0} → List Header → Slots S → Option JType → Instructions → List Value → State S → Outcome S Place
+step_first headers slots result [] stack state = Stops Stuck state
+step_first headers slots result (first ∷ rest) stack state = step headers slots result (meaning_of first.1) rest stack state
+
+-- ---- exceptions
+
+-- an exception's class is the second class, or below it
+abbrev pub is_instance : List Header → JType → List ℕ → Bool
+is_instance headers Boolean upper = false
+is_instance headers Byte upper = false
+is_instance headers Char upper = false
+is_instance headers Short upper = false
+is_instance headers types.Int upper = false
+is_instance headers types.Long upper = false
+is_instance headers Float upper = false
+is_instance headers Double upper = false
+is_instance headers (Class name) upper = is_subclass headers name upper
+is_instance headers (Array element) upper = false
+
+-- an entry of the exception table takes an exception that is thrown at this offset (JVMS 2.10, 4.7.3)
+abbrev pub takes : List Header → ℕ → RefValue → Handler → Bool
+takes headers pc reference handler = nat_le handler.start pc && nat_lt pc handler.end && by_class handler.class
+  where
+    by_class : Option (List ℕ) → Bool
+    by_class None = true
+    by_class (Some class) = is_instance headers reference.class class
+
+-- where the first entry that takes an exception leads
+abbrev pub handler_for : List Header → ℕ → RefValue → List Handler → Option ℕ
+handler_for headers pc reference [] = None
+handler_for headers pc reference (first ∷ rest) =
+    if takes headers pc reference first then Some first.target else handler_for headers pc reference rest
+
+-- an exception goes on in its handler, with the reference alone on the stack
+abbrev pub caught : {S : Type 0} → List Header → Code → ℕ → Outcome S Place → Outcome S Place
+caught headers code pc (Is place state) = Is place state
+caught headers code pc (Stops More state) = Stops More state
+caught headers code pc (Stops Stuck state) = Stops Stuck state
+caught {S = S} headers code pc (Stops (Throws reference) state) = goes_on (handler_for headers pc reference code.handlers)
+  where
+    goes_on : Option ℕ → Outcome S Place
+    goes_on None = Stops (Throws reference) state
+    goes_on (Some target) = Is (Before (code_from target code.instructions) (Ref reference ∷ [])) state
+
+-- ---- bounded runs
+
+-- the offset of the first of these instructions
+abbrev pub pc_of : Instructions → ℕ
+pc_of [] = 0
+pc_of (first ∷ rest) = first.0
+
+-- on from a place
+abbrev pub onward : {S : Type 0} → (Instructions → List Value → State S → Outcome S (Option Value)) → Place → State S → Outcome S (Option Value)
+onward run (Before rest stack) state = run rest stack state
+onward run (Returned value) state = Is value state
+
+-- at most so many instructions of a method's code, from the first of these on
+abbrev pub steps : {S : Type 0} → List Header → Slots S → Code → ℕ → Instructions → List Value → State S → Outcome S (Option Value)
+steps headers slots code zero rest stack state = Stops More state
+steps headers slots code (suc bound) rest stack state =
+    bind (caught headers code (pc_of rest) (step_first headers slots (result_of (view_descriptor code.descriptor)) rest stack state)) (onward (steps headers slots code bound))
+
+-- the slots of arguments; a long takes two
+abbrev pub slots_of : List Value → Locals
+slots_of [] = []
+slots_of (Int number ∷ rest) = Some (Int number) ∷ slots_of rest
+slots_of (Long number ∷ rest) = Some (Long number) ∷ None ∷ slots_of rest
+slots_of (Null ∷ rest) = Some Null ∷ slots_of rest
+slots_of (Ref reference ∷ rest) = Some (Ref reference) ∷ slots_of rest
+
+-- the locals as a method with so many begins
+abbrev pub first_locals : ℕ → List Value → Locals
+first_locals most arguments = slots_of arguments ++ replicate (most - length (slots_of arguments)) None
+
+-- what at most so many instructions of a method show, by these headers, with these arguments, `this` first where it has one, and answers
+abbrev pub bytecode_show : List Header → Code → List Value → List Answer → ℕ → Show
+bytecode_show headers code arguments answers bound =
+    shown (steps headers local_slots code bound code.instructions [] (record { store = first_locals code.max_locals arguments; world = opening answers }))

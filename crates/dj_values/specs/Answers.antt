@@ -1,0 +1,2 @@
+-- Which answers an action can have, by the headers of the classes that run; and the test of it, which a run makes.
+-- (V1 writes this file: the table as a relation, `FitsAction`, and the tests `is_name`, `is_subclass`, `is_answer`.)

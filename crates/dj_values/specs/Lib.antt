@@ -1,0 +1,5 @@
+-- What the public contracts rest on, in reading order.
+pub mod Values
+pub mod Fits
+pub mod Answers
+pub mod Outcomes
