@@ -62,10 +62,10 @@ exact-units n = record {
   one_fault = λ end bytes f g p q. units_one_fault n end bytes f g p q;
 }
 
-exact-u2 : IsExact u2
+pub exact-u2 : IsExact u2
 exact-u2 = exact-number 2 kind.Short
 
-exact-counted : {A : Type 0} (item : Layout BrokenKind A) → IsExact item → IsExact (counted item)
+pub exact-counted : {A : Type 0} (item : Layout BrokenKind A) → IsExact item → IsExact (counted item)
 exact-counted item exact = exact-headed _ _ _ exact-u2 (λ n. exact-times n item exact)
 
 exact-text : IsExact text

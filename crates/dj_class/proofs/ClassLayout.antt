@@ -54,7 +54,7 @@ entries_pushed n bytes rest others (y ∷ ys) pushed x so_far next is =
     rw is record { fits = (more.fits, cc (so_far.fits.1)); text = more.text }
 
 -- four parts, one after the other
-four_parts : (a b c d bytes behind_a behind_b behind_c rest : List ℕ) → bytes ≡ a ++ behind_a → behind_a ≡ b ++ behind_b → behind_b ≡ c ++ behind_c → behind_c ≡ d ++ rest
+pub four_parts : (a b c d bytes behind_a behind_b behind_c rest : List ℕ) → bytes ≡ a ++ behind_a → behind_a ≡ b ++ behind_b → behind_b ≡ c ++ behind_c → behind_c ≡ d ++ rest
     → bytes ≡ (a ++ (b ++ (c ++ (d ++ [])))) ++ rest
 four_parts a b c d bytes behind_a behind_b behind_c rest p q r s = rw (p, q, r, s) (simp (append_assoc, append-nil))
 

@@ -17,7 +17,7 @@ use dj_layout::Stop;
 use dj_names::{ClassName, Descriptor, Field, Items, Units};
 pub use pool::has_attribute;
 use raw::read_raw;
-pub use raw::{Attribute, Entry};
+pub use raw::{Attribute, BrokenKind, Entry, attributes_at};
 use resolve::class_of;
 use std::alloc::{AllocError, Global};
 

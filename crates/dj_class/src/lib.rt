@@ -6,6 +6,6 @@
 mod class;
 
 pub use class::{
-    Attribute, ClassFile, CodeContent, Entry, Handler, Method, has_attribute, read_class,
-    read_content,
+    Attribute, BrokenKind, ClassFile, CodeContent, Entry, Handler, Method, attributes_at,
+    has_attribute, read_class, read_content,
 };
