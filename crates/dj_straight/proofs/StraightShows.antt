@@ -157,10 +157,10 @@ with_formula (Number number) more = suc more
 with_formula (Parameter slot) more = suc more
 with_formula (Calculation calc left right) more = with_formula left (with_formula right (suc more))
 
-enough : (formula : Formula) (more : ℕ) → more ≤ with_formula formula more
-enough (Number number) more = omega arith
-enough (Parameter slot) more = omega arith
-enough (Calculation calc left right) more = omega (arith, enough left (with_formula right (suc more)), enough right (suc more))
+no_fewer : (formula : Formula) (more : ℕ) → more ≤ with_formula formula more
+no_fewer (Number number) more = omega arith
+no_fewer (Parameter slot) more = omega arith
+no_fewer (Calculation calc left right) more = omega (arith, no_fewer left (with_formula right (suc more)), no_fewer right (suc more))
 
 module _ (headers : List Header) (code : Code) (numbers : List ℤ) (state : State Locals) (loaded : (slot : ℕ) → slot < length numbers → slice_index_or state.store slot None ≡ Some (Int (number_at numbers slot))) where
   -- so many steps from the first of these instructions on, with a stack
@@ -226,7 +226,7 @@ code-is headers code numbers formula answers least uses int is =
     let state : State Locals = record { store = first_locals code.max_locals (ints numbers); world = opening answers } in
     let goes = leads headers code numbers state (slot-is numbers behind) formula [] code.instructions (instruction.Return (Some kind.Int) ∷ []) uses is in
     let ends = ends_with headers code numbers state (slot-is numbers behind) (meaning numbers formula) goes.left int goes.spelled least in
-    record { bound = with_formula formula (suc least); enough = omega (arith, enough formula (suc least)); shows = ap shown (goes.ran (suc least) ∙ ends) }
+    record { bound = with_formula formula (suc least); enough = omega (arith, no_fewer formula (suc least)); shows = ap shown (goes.ran (suc least) ∙ ends) }
 
 -- ---- both
 
