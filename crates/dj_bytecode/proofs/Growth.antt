@@ -4,13 +4,10 @@ use Rattle.dj_names.specs.declared.header.Header.{Header}
 use Rattle.dj_names.specs.Types.{JType, result_of, view_descriptor}
 use Rattle.dj_values.specs.Values.{Value, Action, Answer, IsBelow}
 use Rattle.dj_values.specs.Outcomes.{Stop, Throws, More, Stuck, there, then_on, State, Outcome, Is, Stops, outside, opening, IsFront, actions_of, Below}
-use Rattle.dj_values.proofs.Growth.{front-refl, Rises, rises-outside, rises-bind, below-refl, below-bind, shown-below}
+use Rattle.dj_values.proofs.Growth.{Rises, rises-is, rises-stops, rises-outside, rises-bind, below-refl, below-bind, shown-below}
 use Rattle.dj_code.specs.declared.code.Code.{Code}
 use Rattle.dj_code.specs.Instructions.{Instructions}
 use Rattle.dj_bytecode.specs.Machine.{Slots, local_slots, of_kind, Family, Strict, Loads, Returns, meaning_of, Place, Before, Returned, strict, results, step, step_first, handler_for, caught, pc_of, onward, steps, first_locals, bytecode_show}
-
-rises-is : {S A : Type 0} (result : A) → Rises {S = S} (λ state. Is result state)
-rises-is result = record { rises = λ state. front-refl state.world.actions }
 
 module _ {S : Type 0} (headers : List Header) (slots : Slots S) (code : Code) where
   -- a run of the machine, from the first of these instructions on
@@ -29,7 +26,7 @@ module _ {S : Type 0} (headers : List Header) (slots : Slots S) (code : Code) wh
       rises-bind (outside headers (results kind result stack)) _ (rises-outside headers (results kind result stack)) (λ value. rises-is (Returned value))
 
   rises-first : (result : Option JType) (rest : Instructions) (stack : List Value) → Rises (step_first headers slots result rest stack)
-  rises-first result [] stack = record { rises = λ state. front-refl state.world.actions }
+  rises-first result [] stack = rises-stops Stuck
   rises-first result (first ∷ rest) stack = rises-step result (meaning_of first.1) rest stack
 
   front-caught : (pc : ℕ) (start : List Action) (outcome : Outcome S Place) → IsFront start (actions_of outcome) → IsFront start (actions_of (caught headers code pc outcome))
@@ -50,7 +47,7 @@ module _ {S : Type 0} (headers : List Header) (slots : Slots S) (code : Code) wh
   rises-onward run h (Returned value) = rises-is value
 
   pub rises-steps : (bound : ℕ) (rest : Instructions) (stack : List Value) → Rises (steps headers slots code bound rest stack)
-  rises-steps zero rest stack = record { rises = λ state. front-refl state.world.actions }
+  rises-steps zero rest stack = rises-stops More
   rises-steps (suc bound) rest stack =
       let result = result_of (view_descriptor code.descriptor) in
       rises-bind (λ state. caught headers code (pc_of rest) (step_first headers slots result rest stack state)) _

@@ -1,6 +1,5 @@
 -- A run of a tree only adds to the actions, and one with a smaller bound is below one with a greater.
-use Rattle.std.proofs.Common.{ℕ, ◌≤◌, Bool, true, false, List, Option, Some, None, refl}
-use Rattle.std.specs.Prelude.{if◌then◌else◌}
+use Rattle.std.proofs.Common.{ℕ, ◌≤◌, List, Option, Some, None, refl}
 use Rattle.dj_names.specs.declared.header.Header.{Header}
 use Rattle.dj_names.specs.declared.members.ClassMembers.{ClassMembers}
 use Rattle.dj_names.specs.Types.{JType, parameters_of}
@@ -8,58 +7,48 @@ use Rattle.dj_syntax.specs.Trees.{Exp, Variable, Binary, Stm, Block, Stms, Empty
 use Rattle.dj_syntax.specs.Trees as trees
 use Rattle.dj_values.specs.Values.{Value, Int, Answer, IsBelow}
 use Rattle.dj_values.specs.Fits.{is_static, behind_this}
-use Rattle.dj_values.specs.Outcomes.{State, bind, outside, Below}
-use Rattle.dj_values.proofs.Growth.{front-refl, Rises, rises-outside, rises-bind, below-refl, below-bind, shown-below}
+use Rattle.dj_values.specs.Outcomes.{Stuck, State, bind, outside, Below}
+use Rattle.dj_values.proofs.Growth.{Rises, rises-is, rises-stops, rises-if, rises-outside, rises-bind, below-refl, below-bind, shown-below}
 use Rattle.dj_meaning.specs.Operators.{Operator, Strict, After, operator_of, truth, truth_of, is_wanted, by_form}
 use Rattle.dj_meaning.specs.Conversions.{converted}
-use Rattle.dj_meaning.specs.Meaning.{Context, Scope, Store, Meaning, pure, stuck, looked_up, value, Completion, Normal, Return, Misfit, returns_nothing, returns_value, sequence, run, run_all, ended, of_parameter, context_of, entered, source_show}
+use Rattle.dj_meaning.specs.Meaning.{Context, Scope, Store, Meaning, looked_up, value, Completion, Normal, Return, Misfit, returns_nothing, returns_value, sequence, run, run_all, ended, of_parameter, context_of, entered, source_show}
 
 -- ---- actions are only added
-
-rises-pure : {A : Type 0} (result : A) → Rises (pure result)
-rises-pure result = record { rises = λ state. front-refl state.world.actions }
-
-rises-stuck : {A : Type 0} → Rises {S = Store} {A = A} stuck
-rises-stuck = record { rises = λ state. front-refl state.world.actions }
-
-rises-either : {A : Type 0} (test : Bool) (first second : Meaning A) → Rises first → Rises second → Rises (λ state. if test then first state else second state)
-rises-either true first second h k = h
-rises-either false first second h k = k
 
 rises-form : (headers : List Header) (form : Operator) (left right : Meaning Value) → Rises left → Rises right → Rises (by_form headers form left right)
 rises-form headers (Strict operation) left right h k =
     rises-bind left _ h (λ x. rises-bind right _ k (λ y. rises-outside headers (operation x y)))
 rises-form headers (After wanted) left right h k =
     rises-bind (λ state. bind (left state) (λ x. outside headers (truth_of x))) _ (rises-bind left _ h (λ x. rises-outside headers (truth_of x))) (λ answer.
-    rises-either (is_wanted wanted answer) _ _
-    (rises-bind (λ state. bind (right state) (λ y. outside headers (truth_of y))) _ (rises-bind right _ k (λ y. rises-outside headers (truth_of y))) (λ last. rises-pure (truth last)))
-    (rises-pure (truth answer)))
+    rises-if (is_wanted wanted answer) _ _
+    (rises-bind (λ state. bind (right state) (λ y. outside headers (truth_of y))) _ (rises-bind right _ k (λ y. rises-outside headers (truth_of y))) (λ last. rises-is (truth last)))
+    (rises-is (truth answer)))
 
 rises-looked_up : (type : Option JType) (found : Option Value) → Rises (looked_up type found)
-rises-looked_up None found = rises-stuck
-rises-looked_up (Some type) None = rises-stuck
-rises-looked_up (Some type) (Some value) = rises-pure value
+rises-looked_up None found = rises-stops Stuck
+rises-looked_up (Some type) None = rises-stops Stuck
+rises-looked_up (Some type) (Some value) = rises-is value
 
 pub rises-value : (context : Context) (scope : Scope) (exp : Exp) → Rises (value context scope exp)
-rises-value context scope (trees.Int number) = rises-pure (Int number)
+rises-value context scope (trees.Int number) = rises-is (Int number)
 rises-value context scope (Variable variable) =
     record { rises = λ state. (rises-looked_up (scope variable) (state.store.variables variable)).rises state }
 rises-value context scope (Binary operator left right) =
     rises-form context.headers (operator_of operator) _ _ (rises-value context scope left) (rises-value context scope right)
 
 rises-returns_nothing : (result : Option JType) → Rises (returns_nothing result)
-rises-returns_nothing None = rises-pure (Return None)
-rises-returns_nothing (Some type) = rises-pure Misfit
+rises-returns_nothing None = rises-is (Return None)
+rises-returns_nothing (Some type) = rises-is Misfit
 
 rises-returns_value : (context : Context) (result : Option JType) (value : Value) → Rises (returns_value context result value)
-rises-returns_value context None value = rises-pure Misfit
+rises-returns_value context None value = rises-is Misfit
 rises-returns_value context (Some type) value =
-    rises-bind (outside context.headers (converted type value)) _ (rises-outside context.headers (converted type value)) (λ result. rises-pure (Return (Some result)))
+    rises-bind (outside context.headers (converted type value)) _ (rises-outside context.headers (converted type value)) (λ result. rises-is (Return (Some result)))
 
 rises-sequence : (next : Meaning Completion) → Rises next → (completion : Completion) → Rises (sequence next completion)
 rises-sequence next h Normal = h
-rises-sequence next h (Return result) = rises-pure (Return result)
-rises-sequence next h Misfit = rises-pure Misfit
+rises-sequence next h (Return result) = rises-is (Return result)
+rises-sequence next h Misfit = rises-is Misfit
 
 mutual
   pub rises-run : (context : Context) (scope : Scope) (bound : ℕ) (stm : Stm) → Rises (run context scope bound stm)
@@ -69,17 +58,17 @@ mutual
       rises-bind (value context scope result) _ (rises-value context scope result) (rises-returns_value context context.result)
 
   pub rises-run_all : (context : Context) (scope : Scope) (bound : ℕ) (list : Stms) → Rises (run_all context scope bound list)
-  rises-run_all context scope bound Empty = rises-pure Normal
+  rises-run_all context scope bound Empty = rises-is Normal
   rises-run_all context scope bound (And first rest) =
       rises-bind (run context scope bound first) _ (rises-run context scope bound first) (rises-sequence (run_all context scope bound rest) (rises-run_all context scope bound rest))
 
 rises-ended : (result : Option JType) (completion : Completion) → Rises (ended result completion)
-rises-ended None Normal = rises-pure None
-rises-ended (Some type) Normal = rises-stuck
-rises-ended None (Return value) = rises-pure value
-rises-ended (Some type) (Return value) = rises-pure value
-rises-ended None Misfit = rises-stuck
-rises-ended (Some type) Misfit = rises-stuck
+rises-ended None Normal = rises-is None
+rises-ended (Some type) Normal = rises-stops Stuck
+rises-ended None (Return value) = rises-is value
+rises-ended (Some type) (Return value) = rises-is value
+rises-ended None Misfit = rises-stops Stuck
+rises-ended (Some type) Misfit = rises-stops Stuck
 
 -- ---- greater bounds
 
