@@ -99,7 +99,7 @@ strict count operation stack = taken count [] stack (λ operands below. then_on 
 
 -- an int that a method returns: a narrower result keeps its low bits, a boolean the lowest (JVMS 6.5, `ireturn`)
 abbrev pub narrowed : JType → ℤ → Reply Value
-narrowed Boolean number = Gives (Int (int_bit_and number (pos 1)))
+narrowed Boolean number = Gives (Int (int_bit_and w32 number (pos 1)))
 narrowed Byte number = Gives (Int (cast_signed w8 (cast_unsigned w8 number)))
 narrowed Char number = Gives (Int (pos (cast_unsigned w16 number)))
 narrowed Short number = Gives (Int (cast_signed w16 (cast_unsigned w16 number)))

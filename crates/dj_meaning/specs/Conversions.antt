@@ -9,7 +9,7 @@ use Rattle.dj_values.specs.Outcomes.{More, Stuck, Reply, Gives, Halts}
 -- an int where a type is wanted: a narrower one keeps its low bits, a boolean the lowest, a long is as great;
 -- what would be a float or double is not followed further
 abbrev pub converted_int : JType → ℤ → Reply Value
-converted_int Boolean number = Gives (Int (int_bit_and number (pos 1)))
+converted_int Boolean number = Gives (Int (int_bit_and w32 number (pos 1)))
 converted_int Byte number = Gives (Int (cast_signed w8 (cast_unsigned w8 number)))
 converted_int Char number = Gives (Int (pos (cast_unsigned w16 number)))
 converted_int Short number = Gives (Int (cast_signed w16 (cast_unsigned w16 number)))
