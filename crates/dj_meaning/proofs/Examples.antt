@@ -1,14 +1,15 @@
 -- What bodies show at worked examples, by computation: a wrong definition is refused here.
-use Rattle.std.proofs.Common.{◌≡◌, ℕ, List, [], ◌∷◌, Some, None, refl}
+use Rattle.std.proofs.Common.{◌≡◌, ℕ, List, [], ◌∷◌, Some, refl}
 use Rattle.std.specs.Prelude.{pos, negsuc, codes}
+use Rattle.std.specs.Int.{int_wrap}
 use Rattle.dj_names.specs.declared.header.Header.{Header}
 use Rattle.dj_names.specs.Types as types
-use Rattle.dj_names.specs.Types.{JType, Byte, Boolean, Class, Method}
+use Rattle.dj_names.specs.Types.{JType, Boolean, Byte, Char, Class, Method}
 use Rattle.dj_syntax.specs.declared.operator.Op.TheVariants as op
 use Rattle.dj_syntax.specs.declared.variable.VarKind.TheVariants as kind
 use Rattle.dj_syntax.specs.Trees.{Exp, Variable, Binary, Empty, And, Body}
 use Rattle.dj_syntax.specs.Trees as trees
-use Rattle.dj_values.specs.Values.{RefValue, Numbered, Value, Int, Trap, Answer, Thrown, More, Return, Throw, Show}
+use Rattle.dj_values.specs.Values.{RefValue, Numbered, Int, Trap, Thrown, More, Return, Throw, Show}
 use Rattle.dj_meaning.specs.Meaning.{source_show}
 
 -- a parameter by its number
@@ -78,4 +79,10 @@ both_operands_count = refl
 -- a byte keeps the low eight bits of 300
 a_byte_is_returned : source_show [] [] (returning Byte (trees.Int (pos 300))) (Int (pos 5) ∷ Int (pos 7) ∷ []) [] 0
     ≡ record { actions = []; end = Return (Some (Int (pos 44))) }
+unfolding int_wrap
 a_byte_is_returned = refl
+
+-- a char keeps the low sixteen bits of -1
+a_char_is_returned : source_show [] [] (returning Char (trees.Int (negsuc 0))) (Int (pos 5) ∷ Int (pos 7) ∷ []) [] 0
+    ≡ record { actions = []; end = Return (Some (Int (pos 65535))) }
+a_char_is_returned = refl
