@@ -3,7 +3,7 @@ use Rattle.std.proofs.Common.{◌≡◌, ℕ, zero, suc, ◌≤◌, List, [], �
 use Rattle.dj_names.specs.declared.header.Header.{Header}
 use Rattle.dj_names.specs.Types.{JType, result_of, view_descriptor}
 use Rattle.dj_values.specs.Values.{Value, Action, Answer, IsBelow}
-use Rattle.dj_values.specs.Outcomes.{Stop, Throws, More, Stuck, there, then_on, State, Outcome, Is, Stops, outside, opening, IsFront, actions_of, Below}
+use Rattle.dj_values.specs.Outcomes.{Throws, More, Stuck, there, then_on, State, Outcome, Is, Stops, outside, opening, IsFront, actions_of, Below}
 use Rattle.dj_values.proofs.Growth.{Rises, rises-is, rises-stops, rises-outside, rises-bind, below-refl, below-bind, shown-below}
 use Rattle.dj_code.specs.declared.code.Code.{Code}
 use Rattle.dj_code.specs.Instructions.{Instructions}

@@ -1,3 +1,3 @@
 pub mod Growth
-pub mod Results
+pub mod NarrowedResults
 pub mod Examples
