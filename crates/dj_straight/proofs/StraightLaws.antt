@@ -3,7 +3,6 @@ use Rattle.std.proofs.Common.{◌≡◌, ◌≢◌, ℕ, suc, ◌+◌, ◌-◌, 
 use Rattle.std.proofs.Math.Seq.{take-add, take-suc, take-append_seam, drop-append_seam}
 use Rattle.std.proofs.lemmas.List.{take-append-drop}
 use Rattle.std.specs.Int.RustNames.{unsigned_abs}
-use Rattle.dj_syntax.specs.Trees.{view_exp}
 use Rattle.dj_code.specs.declared.code.Kind.TheVariants as kind
 use Rattle.dj_code.specs.declared.code.Constant.TheVariants as constant
 use Rattle.dj_code.specs.declared.code.Instruction.{Instruction}

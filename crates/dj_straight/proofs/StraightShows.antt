@@ -146,7 +146,7 @@ source-is headers members numbers formula body answers turns uses static descrip
       found = λ slot within. ap (λ flag. slice_get (behind_this flag (ints numbers)) slot) static ∙ argument-is numbers slot within;
     } in
     let ran : run_all context scope turns body.statements state ≡ Is (Return (Some (Int number))) state =
-        ap (λ list. run_all context scope turns list state) one ∙ returns-int context scope turns (exp_of formula) number state int (value-is context scope numbers formula state has uses) in
+    ap (λ list. run_all context scope turns list state) one ∙ returns-int context scope turns (exp_of formula) number state int (value-is context scope numbers formula state has uses) in
     ap (λ outcome. shown (bind outcome (ended (result_of body.descriptor)))) ran ∙ ap (λ result. shown (ended result (Return (Some (Int number))) state)) int
 
 -- ---- the code
@@ -172,6 +172,13 @@ module _ (headers : List Header) (code : Code) (numbers : List ℤ) (state : Sta
     left : Instructions
     spelled : map (λ i. i.1) left ≡ rest
     ran : (more : ℕ) → run (bound more) tail stack ≡ run more left next
+
+  leads-join : (middle rest : List Instruction) (tail : Instructions) (a b c : List Value) (f g : ℕ → ℕ) → (first : Leads middle tail a b f) → Leads rest first.left b c g → Leads rest tail a c (λ more. f (g more))
+  leads-join middle rest tail a b c f g first second = record {
+    left = second.left;
+    spelled = second.spelled;
+    ran = λ more. first.ran (g more) ∙ second.ran more;
+  }
 
   pushes : (number : ℤ) (stack : List Value) (tail : Instructions) (rest : List Instruction) → map (λ i. i.1) tail ≡ instruction.Push (constant.Int number) ∷ rest → Leads rest tail stack (Int number ∷ stack) (λ more. suc more)
   pushes number stack [] rest is = absurd (cc)
@@ -204,7 +211,8 @@ module _ (headers : List Header) (code : Code) (numbers : List ℤ) (state : Sta
       let one = leads left stack tail (postfix right ++ last) uses.0 (is ∙ regroup) in
       let two = leads right (Int x ∷ stack) one.left last uses.1 one.spelled in
       let three = calculations calc x y stack two.left rest two.spelled in
-      record { left = three.left; spelled = three.spelled; ran = λ more. one.ran (with_formula right (suc more)) ∙ two.ran (suc more) ∙ three.ran more }
+      leads-join (postfix right ++ last) rest tail stack (Int x ∷ stack) (Int (calculate calc x y) ∷ stack) (with_formula left) (λ more. with_formula right (suc more)) one
+      (leads-join last rest one.left (Int x ∷ stack) (Int y ∷ Int x ∷ stack) (Int (calculate calc x y) ∷ stack) (with_formula right) (λ more. suc more) two three)
 
   -- `ireturn` ends the run
   ends_with : (number : ℤ) (tail : Instructions) → result_of (view_descriptor code.descriptor) ≡ Some types.Int → map (λ i. i.1) tail ≡ instruction.Return (Some kind.Int) ∷ []

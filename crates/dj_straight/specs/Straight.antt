@@ -1,5 +1,5 @@
 -- Straight methods: code that is one expression in postfix form and `ireturn`, and the expression that it is.
-use Rattle.std.specs.Prelude.{◌≡◌, ℕ, ◌+◌, ◌≤◌, ◌<◌, max, ℤ, length, map, take, replicate, List, [], ◌∷◌, ◌++◌, Some}
+use Rattle.std.specs.Prelude.{◌≡◌, ℕ, ◌+◌, ◌≤◌, ◌<◌, max, ℤ, length, map, take, List, [], ◌∷◌, ◌++◌, Some}
 use Rattle.dj_syntax.specs.declared.operator.Op.{Op}
 use Rattle.dj_syntax.specs.declared.operator.Op.TheVariants as op
 use Rattle.dj_syntax.specs.declared.variable.VarKind.TheVariants as variable
