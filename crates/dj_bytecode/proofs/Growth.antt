@@ -47,7 +47,7 @@ module _ {S : Type 0} (headers : List Header) (slots : Slots S) (code : Code) wh
   rises-onward run h (Returned value) = rises-is value
 
   pub rises-steps : (bound : ℕ) (rest : Instructions) (stack : List Value) → Rises (steps headers slots code bound rest stack)
-  rises-steps zero rest stack = rises-stops More
+  rises-steps zero rest stack = rises-stops _
   rises-steps (suc bound) rest stack =
       let result = result_of (view_descriptor code.descriptor) in
       rises-bind (λ state. caught headers code (pc_of rest) (step_first headers slots result rest stack state)) _
