@@ -1,6 +1,6 @@
 //! Straight bodies, from the bytes of their code (JVMS 6.5).
 
-use dj_method::{Rebuilt, straight_body};
+use dj_straight::{Rebuilt, straight_body};
 use dj_syntax::{Exp, Op, VarKind};
 use std::test::Fail;
 
