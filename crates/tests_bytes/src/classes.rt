@@ -1,5 +1,6 @@
 //! A class file of the first form, and files that differ from it in little.
-use dj_class::{has_attribute, read_class, read_content};
+use dj_class::{has_attribute, read_class};
+use dj_code::read_content;
 use std::test::Fail;
 
 /// A class `C` with one static method `f`, which answers the difference of two ints.
@@ -64,5 +65,17 @@ fn a_changed_byte_may_make_no_class(rt: HostRuntime) -> Result<(), Fail> {
             "at {place}"
         );
     }
+    Ok(())
+}
+
+#[test]
+fn the_content_of_code_is_read(rt: HostRuntime) -> Result<(), Fail> {
+    let content = read_content(rt.alloc(), &FILE[CONTENT..100])?.ok_or("it is laid out")?;
+    assert_eq!(rt; content.max_stack, 2);
+    assert_eq!(rt; content.max_locals, 2);
+    assert_eq!(rt; content.code.as_slice(), &[0x1au8, 0x1b, 0x64, 0xac][..]);
+    assert!(rt; content.handlers.is_empty());
+    assert!(rt; !has_attribute(&[], content.attributes.as_slice(), "StackMapTable"));
+    assert!(rt; read_content(rt.alloc(), &FILE[CONTENT..99])?.is_none());
     Ok(())
 }

@@ -12,7 +12,7 @@ fn units(alloc: Global, text: &str) -> Result<Units, Fail> {
     for byte in text.as_bytes() {
         units.push(u16::from(*byte))?;
     }
-    Ok(Units::from_vec(units))
+    Ok(Units::from_vec(units)?)
 }
 
 /// The units of `count` times `letter` between `front` and `back`.
