@@ -148,7 +148,7 @@ pub fn printed_again(alloc: Global, bytes: &[u8]) -> Result<Option<Vec<u8>>, All
 #[test]
 fn texts_are_printed_again(rt: HostRuntime) -> Result<(), Fail> {
     for text in TEXTS {
-        let again = printed_again(rt.alloc(), text.as_bytes())?.ok_or("misread")?;
+        let again = printed_again(rt.alloc(), text.as_bytes())?.ok_or(*text)?;
         assert_eq!(rt; again.as_slice(), text.as_bytes(), "{text}");
     }
     Ok(())
