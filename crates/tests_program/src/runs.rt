@@ -1,4 +1,4 @@
-//! The program over files and sinks in memory, which can fail: each way in which such a run ends.
+//! The program over files and sinks in memory: runs that come to their end, and those that a file or a sink ends.
 
 use dj_cli::{Status, run};
 use dj_outer::{MemoryFiles, MemorySink};
