@@ -1,4 +1,4 @@
-//! The program over files and sinks in memory, which can fail: each way in which such a run ends.
+//! The program over files and sinks in memory: runs that come to their end, and those that a file or a sink ends.
 
 use dj_cli::{Status, run};
 use dj_outer::{MemoryFiles, MemorySink};
@@ -28,50 +28,87 @@ fn quotient(alloc: Global) -> Result<Vec<u8>, AllocError> {
     Ok(bytes)
 }
 
-/// Runs the program on the file of this name, where there is one, `C.class`, with these bytes.
+/// How a run ended, and the sinks that it wrote to.
+#[derive(Drop)]
+struct Ended {
+    status: Status,
+    text: MemorySink,
+    report: MemorySink,
+}
+
+/// Runs the program on the file of this name, where there is one, `C.class`, with these bytes. The
+/// text and the report fail at the calls that are listed.
 fn run_on(
     alloc: Global,
     name: &str,
     bytes: &[u8],
-    text: &mut MemorySink,
-    report: &mut MemorySink,
-) -> Result<Status, AllocError> {
+    text_fails: &[u64],
+    report_fails: &[u64],
+) -> Result<Ended, AllocError> {
     let mut words = Vec::new(alloc);
     words.push(String::from_str(alloc, "decompile")?)?;
     words.push(String::from_str(alloc, name)?)?;
+    let class = (
+        String::from_str(alloc, "C.class")?,
+        Vec::from_slice(alloc, bytes)?,
+    );
     let mut held = Vec::new(alloc);
-    held.push((String::from_str(alloc, "C.class")?, Vec::from_slice(alloc, bytes)?))?;
+    held.push(class)?;
     let mut files = MemoryFiles::new(alloc, held, Vec::new(alloc));
-    run(alloc, words.as_slice(), &mut files, text, report)
-}
-
-/// A sink that fails at these calls.
-fn sink(alloc: Global, failing: &[u64]) -> Result<MemorySink, AllocError> {
-    MemorySink::new(alloc, 1000, Vec::from_slice(alloc, failing)?)
+    let mut text = MemorySink::new(alloc, 1000, Vec::from_slice(alloc, text_fails)?)?;
+    let mut report = MemorySink::new(alloc, 1000, Vec::from_slice(alloc, report_fails)?)?;
+    let status = run(alloc, words.as_slice(), &mut files, &mut text, &mut report)?;
+    Ok(Ended {
+        status,
+        text,
+        report,
+    })
 }
 
 #[test]
-fn a_run_ends_with_its_status(rt: HostRuntime) -> Result<(), Fail> {
-    let alloc = rt.alloc();
-    let quotient = quotient(alloc)?;
-    let division = quotient.as_slice();
-    let line = "C.f(II)I notyet 2\n";
-    // The file and its bytes, the calls at which text and report fail, and what comes of it.
-    let runs: [(&str, &[u8], &[u64], &[u64], Status, u8, &str, &str); 5] = [
-        ("C.class", DIFFERENCE, &[], &[], Status::Clean, 0, TEXT, ""),
-        ("C.class", division, &[], &[], Status::Refused, 1, EMPTY_TEXT, line),
-        ("D.class", DIFFERENCE, &[], &[], Status::ReadFault(0), 3, "", "read 0\n"),
-        ("C.class", DIFFERENCE, &[1], &[], Status::TextFault, 4, "// C.java\n", ""),
-        ("C.class", division, &[], &[0], Status::ReportFault, 5, EMPTY_TEXT, ""),
-    ];
-    for (name, bytes, text_fails, report_fails, status, code, written, told) in runs {
-        let mut text = sink(alloc, text_fails)?;
-        let mut report = sink(alloc, report_fails)?;
-        let ended = run_on(alloc, name, bytes, &mut text, &mut report)?;
-        assert_eq!(rt; ended, status);
-        assert_eq!(rt; ended.exit_code(), code);
-        assert_eq!(rt; text.taken(), written.as_bytes(), "with status {code}");
-        assert_eq!(rt; report.taken(), told.as_bytes(), "with status {code}");
-    }
+fn a_class_is_printed(rt: HostRuntime) -> Result<(), Fail> {
+    let ended = run_on(rt.alloc(), "C.class", DIFFERENCE, &[], &[])?;
+    assert_eq!(rt; ended.status, Status::Clean);
+    assert_eq!(rt; ended.status.exit_code(), 0);
+    assert_eq!(rt; ended.text.taken(), TEXT.as_bytes());
+    assert_eq!(rt; ended.report.taken(), "".as_bytes());
+    Ok(())
+}
+
+#[test]
+fn a_refused_method_has_a_line(rt: HostRuntime) -> Result<(), Fail> {
+    let bytes = quotient(rt.alloc())?;
+    let ended = run_on(rt.alloc(), "C.class", bytes.as_slice(), &[], &[])?;
+    assert_eq!(rt; ended.status, Status::Refused);
+    assert_eq!(rt; ended.text.taken(), EMPTY_TEXT.as_bytes());
+    assert_eq!(rt; ended.report.taken(), "C.f(II)I notyet 2\n".as_bytes());
+    Ok(())
+}
+
+#[test]
+fn a_missing_file_has_one_line(rt: HostRuntime) -> Result<(), Fail> {
+    let ended = run_on(rt.alloc(), "D.class", DIFFERENCE, &[], &[])?;
+    assert_eq!(rt; ended.status, Status::ReadFault(0));
+    assert_eq!(rt; ended.text.taken(), "".as_bytes());
+    assert_eq!(rt; ended.report.taken(), "read 0\n".as_bytes());
+    Ok(())
+}
+
+#[test]
+fn a_text_that_fails_at_its_second_call_holds_one_line(rt: HostRuntime) -> Result<(), Fail> {
+    let ended = run_on(rt.alloc(), "C.class", DIFFERENCE, &[1], &[])?;
+    assert_eq!(rt; ended.status, Status::TextFault);
+    assert_eq!(rt; ended.text.taken(), "// C.java\n".as_bytes());
+    assert_eq!(rt; ended.report.taken(), "".as_bytes());
+    Ok(())
+}
+
+#[test]
+fn a_report_that_fails_leaves_the_text_whole(rt: HostRuntime) -> Result<(), Fail> {
+    let bytes = quotient(rt.alloc())?;
+    let ended = run_on(rt.alloc(), "C.class", bytes.as_slice(), &[], &[0])?;
+    assert_eq!(rt; ended.status, Status::ReportFault);
+    assert_eq!(rt; ended.text.taken(), EMPTY_TEXT.as_bytes());
+    assert_eq!(rt; ended.report.taken(), "".as_bytes());
     Ok(())
 }
