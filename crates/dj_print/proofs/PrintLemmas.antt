@@ -5,9 +5,11 @@ use Rattle.std.specs.List.{flat_map}
 use Rattle.std.proofs.lemmas.List.{drop-map, drop_more, get_or-map, length-map, replicate-append-replicate, take_all}
 use Rattle.std.proofs.lemmas.List.Elements.{All-drop}
 use Rattle.std.proofs.lemmas.Grind.{flat_map-append}
+use Rattle.dj_names.specs.ClassNames.{segments, in_front}
 use Rattle.dj_syntax.specs.Items.{Line, Space, item_text, render, separated}
 use Rattle.dj_syntax.specs.Trees.{Stm, Stms, Block, Return, Empty, And}
-use Rattle.dj_syntax.specs.UnitText.{Spellings, dotted, segments, in_front, sign, word, exp_items, helper_items, modifiers, modifiers_items, modifier_items, stm_items, stms_items}
+use Rattle.dj_syntax.specs.UnitText.{Spellings, dotted, sign, word, exp_items, helper_items, modifiers, modifiers_items, modifier_items, stm_items, stms_items}
+use Rattle.dj_syntax.proofs.MethodNames.{some_segment}
 
 -- ---- names
 
@@ -23,18 +25,6 @@ in_front_joined : (unit : ℕ) (parts : List (List ℕ)) → joined (in_front un
 in_front_joined unit [] = refl
 in_front_joined unit (first ∷ rest) = refl
 
-in_front_some : (unit : ℕ) (parts : List (List ℕ)) → 0 < length (in_front unit parts)
-in_front_some unit [] = omega arith
-in_front_some unit (first ∷ rest) = omega arith
-
-choice_some : (slash : Bool) (unit : ℕ) (parts : List (List ℕ)) → 0 < length (if slash then [] ∷ parts else in_front unit parts)
-choice_some true unit parts = omega arith
-choice_some false unit parts = in_front_some unit parts
-
-segments_some : (name : List ℕ) → 0 < length (segments name)
-segments_some [] = omega arith
-segments_some (unit ∷ rest) = choice_some (unit == 47) unit (segments rest)
-
 after_dot : (parts : List (List ℕ)) → 0 < length parts → joined ([] ∷ parts) ≡ 46 ∷ joined parts
 after_dot [] some = absurd (omega arith)
 after_dot (first ∷ rest) some = refl
@@ -47,7 +37,7 @@ choice_joined false unit parts some = in_front_joined unit parts
 pub dotted_text : (name : List ℕ) → render (dotted name) ≡ map dot name
 dotted_text [] = refl
 dotted_text (unit ∷ rest) =
-    choice_joined (unit == 47) unit (segments rest) (segments_some rest) ∙ ap (λ text. dot unit ∷ text) (dotted_text rest)
+    choice_joined (unit == 47) unit (segments rest) (some_segment rest) ∙ ap (λ text. dot unit ∷ text) (dotted_text rest)
 
 -- ---- lines
 
@@ -148,7 +138,7 @@ modifiers_text bits o0 o1 o2 o3 o4 o5 o6 o7 o8 o9 o10 e1 e2 e3 e4 e5 e6 e7 e8 e9
 -- ---- the helper
 
 -- the lines of the helper
-pub helper_text : (own name o0 o1 o2 o3 o4 o5 o6 o7 : List ℕ)
+pub helper_text : (name o0 o1 o2 o3 o4 o5 o6 o7 : List ℕ)
     → o1 ≡ o0 ++ item_text (Line 1)
     → o2 ≡ o1 ++ codes "static <T extends java.lang.Throwable> java.lang.RuntimeException "
     → o3 ≡ o2 ++ name
@@ -156,7 +146,7 @@ pub helper_text : (own name o0 o1 o2 o3 o4 o5 o6 o7 : List ℕ)
     → o5 ≡ o4 ++ item_text (Line 2)
     → o6 ≡ o5 ++ codes "throw (T) t;"
     → o7 ≡ o6 ++ item_text (Line 1)
-    → o7 ++ codes "}" ≡ o0 ++ render (helper_items (record { class_name = dotted; own = own }) (Some name))
-helper_text own name o0 o1 o2 o3 o4 o5 o6 o7 e1 e2 e3 e4 e5 e6 e7 =
+    → o7 ++ codes "}" ≡ o0 ++ render (helper_items (Some name))
+helper_text name o0 o1 o2 o3 o4 o5 o6 o7 e1 e2 e3 e4 e5 e6 e7 =
     let text : o7 ≡ ((((((o0 ++ item_text (Line 1)) ++ codes "static <T extends java.lang.Throwable> java.lang.RuntimeException ") ++ name) ++ codes "(java.lang.Throwable t) throws T {") ++ item_text (Line 2)) ++ codes "throw (T) t;") ++ item_text (Line 1) = cc in
     ap (λ o. o ++ codes "}") text ∙ simp append_assoc

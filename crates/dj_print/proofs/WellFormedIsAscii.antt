@@ -6,10 +6,11 @@ use Rattle.std.specs.Cmp.Lexicographic.{same_text}
 use Rattle.std.proofs.lemmas.Bool.{eqb-true}
 use Rattle.std.proofs.lemmas.Option.{IfSome_then}
 use Rattle.std.proofs.lemmas.List.Elements.{All-from_recursion, recursion_from_All, All-weaker}
-use Rattle.dj_names.specs.Types.{JType, Boolean, Byte, Char, Short, Int, Long, Float, Double, Class, Array, Descriptor, Field, Method}
+use Rattle.dj_names.specs.ClassNames.{segments, in_front}
+use Rattle.dj_names.specs.Types.{JType, Boolean, Byte, Char, Short, Int, Long, Float, Double, Class, Array, Descriptor, Field, Method, result_of}
 use Rattle.dj_names.specs.Identifiers.{IsLetter, IsDigit, IsIdentifierChars, IsIdentifier}
 use Rattle.dj_syntax.specs.Trees.{FieldText, MethodText, CompilationUnit}
-use Rattle.dj_syntax.specs.UnitText.{segments, in_front, is_constructor, is_initialiser, is_interface, result_of}
+use Rattle.dj_syntax.specs.UnitText.{is_constructor, is_initialiser, is_interface}
 use Rattle.dj_syntax.specs.WellFormed.{IsQualified, IsNamed, IsMethodDescriptor, IsDecimalNumeral, IsHelperName, IsInitialiser, IsWellFormedField, IsWellFormedMethod, IsWellFormed, class_name, cond_type}
 use Rattle.dj_print.specs.Printable.{IsAsciiName, IsAsciiType, IsAsciiDescriptor, IsAsciiField, IsAsciiMethod, IsAscii}
 

@@ -6,6 +6,3 @@
 mod print;
 
 pub use print::unit_bytes;
-
-#[cfg(test)]
-mod tests;

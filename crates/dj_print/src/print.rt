@@ -4,7 +4,7 @@ ghost use Rattle.std.specs.Prelude.{◌≡◌, ◌++◌, All, IfOk, IfSome, OnOk
 ghost use Rattle.std.specs.List.{flat_map};
 ghost use Rattle.dj_syntax.specs.Items.{render};
 ghost use Rattle.dj_syntax.specs.Trees.{view_field, view_method, view_unit};
-ghost use Rattle.dj_syntax.specs.UnitText.{class_bits, field_items, is_interface, method_items, members_items, package_items, superclass_items, unit_head_items, unit_items, unit_text};
+ghost use Rattle.dj_syntax.specs.UnitText.{field_items, method_items, members_items, package_items, superclass_items, unit_head_items, unit_items, unit_text};
 ghost use Rattle.dj_print.specs.Printable.{IsAscii, IsAsciiField, IsAsciiMethod, IsAsciiName};
 ghost use Rattle.dj_print.specs.Spelled.{spellings};
 
@@ -21,7 +21,7 @@ use crate::print::method::method;
 use crate::print::names::{Names, class_list, class_name};
 use crate::print::text::{full_name, line, simple_name, text};
 use dj_names::ClassName;
-use dj_syntax::{FieldText, MethodText, Unit};
+use dj_syntax::{FieldText, MethodText, Unit, class_bits, is_interface};
 use std::alloc::{AllocError, Global};
 
 /// The one text of a unit, as bytes.
@@ -84,20 +84,6 @@ fn head(out: &mut Vec<u8>, names: &Names, unit: &Unit) -> Result<(), AllocError>
     text(out, b" {")
 }
 
-// Whether class flags are those of an interface.
-fn is_interface(flags: u16) -> bool
-    ensures interface { result ≡ is_interface flags }
-{
-    flags & 0x0200 != 0
-}
-
-// The bits that a class shows: public, abstract and final; an interface shows public.
-fn class_bits(interface: bool) -> u16
-    ensures bits { result ≡ class_bits interface }
-{
-    if interface { 0x0001 } else { 0x0411 }
-}
-
 // Appends the superclass, where the text names it.
 fn superclass(
     out: &mut Vec<u8>,
@@ -124,7 +110,7 @@ fn members(out: &mut Vec<u8>, names: &Names, unit: &Unit) -> Result<(), AllocErr
 {
     let interface = is_interface(unit.flags);
     fields(out, names, interface, unit.fields.as_slice())?;
-    helper(out, names, &unit.helper)?;
+    helper(out, &unit.helper)?;
     methods(out, names, interface, unit.methods.as_slice())
 }
 

@@ -57,10 +57,10 @@ helper_words (Some name) after =
 
 -- the items of the helper behind its name
 abbrev behind_name : List Item
-behind_name = drop 22 (helper_items (full []) (Some []))
+behind_name = drop 22 (helper_items (Some []))
 
 -- the helper is spelled as its words
-pub helper_is_spelled : (own : List ℕ) (helper : Option (List ℕ)) (text : List ℕ) → IfSome helper IsHelperName → words (render (helper_items (full own) helper) ++ text) ≡ helper_words helper (words text)
-helper_is_spelled own None text named = refl
-helper_is_spelled own (Some name) text named =
+pub helper_is_spelled : (helper : Option (List ℕ)) (text : List ℕ) → IfSome helper IsHelperName → words (render (helper_items helper) ++ text) ≡ helper_words helper (words text)
+helper_is_spelled None text named = refl
+helper_is_spelled (Some name) text named =
     ap (λ after. take 15 (helper_words (Some name) []) ++ after) (word_before name behind_name (drop 16 (helper_words (Some name) (words text))) text (helper_run name named) refl refl)

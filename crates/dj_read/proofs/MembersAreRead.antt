@@ -3,8 +3,9 @@ use Rattle.std.proofs.Common.{◌≡◌, ℕ, zero, suc, ◌+◌, ◌≤◌, ◌
 use Rattle.std.specs.Prelude.{codes, if◌then◌else◌}
 use Rattle.std.specs.List.{AllByRecursion}
 use Rattle.dj_names.specs.Identifiers.{IsIdentifier}
+use Rattle.dj_names.specs.Types.{result_of}
 use Rattle.dj_syntax.specs.Trees.{FieldText, MethodText, CompilationUnit}
-use Rattle.dj_syntax.specs.UnitText.{field_bits, method_bits, is_interface, is_constructor, is_initialiser, result_of}
+use Rattle.dj_syntax.specs.UnitText.{field_bits, method_bits, is_interface, is_constructor, is_initialiser}
 use Rattle.dj_syntax.specs.WellFormed.{IsWellFormed, IsWellFormedField, IsWellFormedMethod, class_name}
 use Rattle.dj_read.specs.Words.{Words}
 use Rattle.dj_read.specs.Members.{Place, Members, no_members, read_member, read_members, ends_members, with_field, with_helper, with_method}

@@ -47,10 +47,10 @@ pub members_are_spelled : (unit : CompilationUnit) (text : List ℕ) → IsWellF
 members_are_spelled unit text formed =
     let interface = is_interface unit.flags in
     let fields = flat_map (field_items (full unit.name) interface) unit.fields in
-    let helper = helper_items (full unit.name) unit.helper in
+    let helper = helper_items unit.helper in
     let methods = flat_map (method_items (full unit.name) interface) unit.methods in
     ap words (then_text fields (helper ++ methods) text)
     ∙ fields_are_spelled unit.name interface unit.fields (render (helper ++ methods) ++ text) formed.fields
     ∙ ap (λ text. fields_words interface unit.fields (words text)) (then_text helper methods text)
-    ∙ ap (fields_words interface unit.fields) (helper_is_spelled unit.name unit.helper (render methods ++ text) formed.helper)
+    ∙ ap (fields_words interface unit.fields) (helper_is_spelled unit.helper (render methods ++ text) formed.helper)
     ∙ ap (λ after. fields_words interface unit.fields (helper_words unit.helper after)) (methods_are_spelled unit.name (class_name unit) interface unit.methods text formed.name formed.methods)

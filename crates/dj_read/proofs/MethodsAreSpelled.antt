@@ -3,10 +3,10 @@ use Rattle.std.proofs.Common.{◌≡◌, ℕ, ◌==◌, Bool, true, false, ◌&&
 use Rattle.std.specs.Prelude.{codes, if◌then◌else◌}
 use Rattle.std.specs.List.{AllByRecursion}
 use Rattle.dj_names.specs.Identifiers.{IsIdentifier}
-use Rattle.dj_names.specs.Types.{Descriptor, Field, Method}
+use Rattle.dj_names.specs.Types.{Descriptor, Field, Method, parameters_of, result_of}
 use Rattle.dj_syntax.specs.Trees.{Body, MethodText}
 use Rattle.dj_syntax.specs.Items.{Item, Line, Space, render}
-use Rattle.dj_syntax.specs.UnitText.{word, sign, result_items, modifiers_items, method_bits, parameters_of, result_of, parameters_items, classes_items, body_items, stms_items, default_items, name_items, head_items, method_items, is_constructor, is_initialiser}
+use Rattle.dj_syntax.specs.UnitText.{word, sign, result_items, modifiers_items, method_bits, parameters_items, classes_items, body_items, stms_items, default_items, name_items, head_items, method_items, is_constructor, is_initialiser}
 use Rattle.dj_syntax.specs.WellFormed.{IsWellFormedMethod, IsNamed, IsQualified, IsMethodDescriptor}
 use Rattle.dj_read.specs.Words.{Words, words, begins, is_letter}
 use Rattle.dj_read.proofs.Runs.{identifier_run}

@@ -1,7 +1,7 @@
 -- What the words of names spell is read from them, whatever follows.
 use Rattle.std.proofs.Common.{◌≡◌, ℕ, ◌==◌, Bool, true, false, List, [], ◌∷◌, ◌++◌, refl, sym, ap, ◌∙◌, subst, append_assoc, eqb-true}
 use Rattle.std.specs.Prelude.{codes}
-use Rattle.dj_syntax.specs.UnitText.{in_front, segments}
+use Rattle.dj_names.specs.ClassNames.{in_front, segments}
 use Rattle.dj_read.specs.Words.{Words, comes}
 use Rattle.dj_read.specs.Names.{more_name, read_name, more_names, read_names}
 

@@ -3,10 +3,11 @@ use Rattle.std.proofs.Common.{◌≡◌, ℕ, ◌+◌, false, List, [], ◌∷�
 use Rattle.std.specs.Prelude.{codes}
 use Rattle.std.specs.Fmt.{decimal}
 use Rattle.std.specs.List.{AllByRecursion, flat_map}
+use Rattle.dj_names.specs.ClassNames.{segments}
 use Rattle.dj_names.specs.Types.{JType, Boolean, Byte, Char, Short, Int, Long, Float, Double, Class, Array}
 use Rattle.dj_names.specs.Identifiers.{IsIdentifier}
 use Rattle.dj_syntax.specs.Items.{Item, Space, render, separated}
-use Rattle.dj_syntax.specs.UnitText.{Spellings, word, sign, segments, dotted, type_items, result_items, more_parameters, parameters_items, classes_items}
+use Rattle.dj_syntax.specs.UnitText.{Spellings, word, sign, dotted, type_items, result_items, more_parameters, parameters_items, classes_items}
 use Rattle.dj_syntax.specs.WellFormed.{IsQualified, IsNamed}
 use Rattle.dj_read.specs.Words.{words, begins, is_letter}
 use Rattle.dj_read.proofs.NamesAreRead.{after_dots, dotted_words, name_words, after_commas, names_words}

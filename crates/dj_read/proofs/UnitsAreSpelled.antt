@@ -132,7 +132,7 @@ members_fit unit =
     let interface = is_interface unit.flags in
     let fields = flat_map (field_items names interface) unit.fields in
     let methods = flat_map (method_items names interface) unit.methods in
-    let helper = helper_items names unit.helper in
+    let helper = helper_items unit.helper in
     let members = members_items names unit in
     let head = unit_head_items names unit in
     omega (

@@ -6,7 +6,7 @@ use Rattle.std.proofs.lemmas.Bool.{false≢true}
 use Rattle.std.proofs.lemmas.Bool.Decides.{nat_tests}
 use Rattle.std.proofs.lemmas.List.{take-append-drop}
 use Rattle.std.proofs.lemmas.List.Folds.{length-prefix_len}
-use Rattle.dj_syntax.specs.UnitText.{in_front}
+use Rattle.dj_names.specs.ClassNames.{in_front}
 use Rattle.dj_read.specs.Words.{Words, Sort, Blank, Letter, Operator, Single, is_blank, is_letter, is_operator, sort_of, begins, put_before, words, first_word, other_words}
 
 -- ---- one character

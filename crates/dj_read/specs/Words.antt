@@ -1,7 +1,7 @@
 -- Java's text as words (JLS 3.5): runs of letters and digits, runs of operator characters, and each other character by itself; blanks part them.
 use Rattle.std.specs.Prelude.{ℕ, Bool, false, nat_le, nat_eq, ◌&&◌, ◌||◌, if◌then◌else◌, List, [], ◌∷◌}
 use lib.Pointwise.{pointwise}
-use Rattle.dj_syntax.specs.UnitText.{in_front}
+use Rattle.dj_names.specs.ClassNames.{in_front}
 
 -- words, in order
 abbrev pub Words : Type 0

@@ -8,8 +8,6 @@ mod members;
 mod names;
 mod one_text;
 mod read;
-#[cfg(test)]
-mod tests;
 mod units;
 mod values;
 mod well_formed;

@@ -7,7 +7,7 @@ ghost use Rattle.dj_read.specs.Names.{IsWhole, more_type, read_name, read_names,
 
 use crate::well_formed::names::SLASH;
 use crate::words::Reader;
-use dj_names::{Boxed, ClassName, Items, JType, Units};
+use dj_names::{ClassName, Items, JType, Shared, Units};
 use std::alloc::{AllocError, Global};
 
 /// The units of a word.
@@ -16,7 +16,7 @@ pub fn units_of(alloc: Global, word: &[u8]) -> Result<Units, AllocError>
 {
     let mut units = Vec::new(alloc);
     add_word(&mut units, word)?;
-    Ok(Units::from_vec(units))
+    Units::from_vec(units)
 }
 
 /// Appends the units of a word.
@@ -40,7 +40,7 @@ pub fn read_name(alloc: Global, reader: &mut Reader) -> Result<ClassName, AllocE
         name.push(SLASH)?;
         add_word(&mut name, reader.take())?;
     }
-    Ok(ClassName::new(Units::from_vec(name)))
+    Ok(ClassName::new(Units::from_vec(name)?))
 }
 
 /// Names with commas between them, behind this keyword, where it stands.
@@ -72,7 +72,7 @@ pub fn read_type(alloc: Global, reader: &mut Reader) -> Result<JType, AllocError
     // A segment behind a keyword or behind brackets, which no type has, is passed over.
     while reader.is_at(b"[") || reader.is_at(b".") {
         if reader.is_at(b"[") {
-            kind = JType::Array(Boxed::new(alloc, kind)?);
+            kind = JType::Array(Shared::new(alloc, kind)?);
         }
         reader.skip(2);
     }
@@ -132,10 +132,10 @@ pub fn read_result(alloc: Global, reader: &mut Reader) -> Result<Option<JType>, 
 }
 
 /// The types of parameters, behind their parenthesis and past the one that ends them.
-pub fn read_parameters(alloc: Global, reader: &mut Reader) -> Result<Items<JType>, AllocError>
-    ensures read { IfOk result (λ kinds. (view_types kinds, reader.new) ≡ read_parameters reader.old) }
+pub fn read_parameters(alloc: Global, reader: &mut Reader) -> Result<Vec<JType>, AllocError>
+    ensures read { IfOk result (λ kinds. (view_types kinds.items, reader.new) ≡ read_parameters reader.old) }
 {
-    let mut kinds = Items::new(alloc);
+    let mut kinds = Vec::new(alloc);
     while !reader.is_at(b")") {
         kinds.push(read_type(alloc, reader)?)?;
         reader.advance();

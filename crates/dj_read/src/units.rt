@@ -6,11 +6,10 @@ ghost use Rattle.dj_read.specs.Units.{class_flags, name_in, read_package, read_s
 
 use crate::members::{Place, read_members, read_modifiers};
 use crate::names::{read_name, read_names, units_of};
-use crate::well_formed::flags::held_class;
 use crate::well_formed::names::SLASH;
 use crate::words::Reader;
 use dj_names::{ClassName, Units};
-use dj_syntax::Unit;
+use dj_syntax::{Unit, held_class};
 use std::alloc::{AllocError, Global};
 
 /// The flag of an interface (JVMS 4.1).
@@ -95,5 +94,5 @@ fn name_in(
     let mut units = Vec::from_slice(alloc, name.as_slice())?;
     units.push(SLASH)?;
     units.extend_from_slice(own.as_slice())?;
-    Ok(ClassName::new(Units::from_vec(units)))
+    Ok(ClassName::new(Units::from_vec(units)?))
 }

@@ -4,17 +4,15 @@ ghost use Rattle.std.specs.Prelude.{◌↔◌, IsTrue, IfSome};
 ghost use Rattle.dj_syntax.specs.Trees.{view_unit};
 ghost use Rattle.dj_syntax.specs.WellFormed.{IsHelperName, IsQualified, IsSuperclass, IsWellFormed};
 
-pub mod flags;
 mod members;
 pub mod names;
 mod same;
 mod trees;
 
-use crate::well_formed::flags::{held_class, is_interface};
 use crate::well_formed::members::{are_well_formed_fields, are_well_formed_methods};
 use crate::well_formed::names::{are_qualified, is_helper_name, is_qualified};
 use dj_names::{ClassName, Units, is_identifier};
-use dj_syntax::Unit;
+use dj_syntax::{Unit, held_class, is_interface};
 
 /// `java/lang/Object`, in units.
 const OBJECT: [u16; 16] = [

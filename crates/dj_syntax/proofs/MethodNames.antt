@@ -1,10 +1,12 @@
 -- Names of methods and the parts of qualified names: what follows from their definitions.
 use Rattle.std.proofs.Common.{◌≡◌, ◌≢◌, ℕ, zero, suc, ◌<◌, ◌==◌, true, false, Bool, cond, List, [], ◌∷◌, ◌++◌, length, replicate, Some, All, refl, ap, ◌∙◌, arith, ne_eqb}
-use Rattle.std.specs.List.{AllByRecursion, slice_split, onto_first}
+use Rattle.std.specs.List.{AllByRecursion}
 use Rattle.std.proofs.lemmas.List.Splits.{slice_split_none, length-slice_split}
 use Rattle.dj_names.specs.Types.{Int, Method}
+use Rattle.dj_names.specs.ClassNames.{in_front, segments}
 use Rattle.dj_names.specs.Identifiers.{IsIdentifier}
-use Rattle.dj_syntax.specs.UnitText.{in_front, segments, is_constructor, is_initialiser}
+use Rattle.dj_names.proofs.SegmentLemmas.{segments-is}
+use Rattle.dj_syntax.specs.UnitText.{is_constructor, is_initialiser}
 use Rattle.dj_syntax.specs.WellFormed.{IsNamed, IsMethodDescriptor}
 
 -- an identifier names no constructor and no static initialiser
@@ -27,22 +29,13 @@ IsMethodDescriptor-ints n = (ints_are_named n, tt)
 
 -- ---- the parts of a name
 
-in_front-is : (unit : ℕ) (parts : List (List ℕ)) → in_front unit parts ≡ onto_first unit parts
-in_front-is unit [] = refl
-in_front-is unit (first ∷ rest) = refl
-
--- the parts between the slashes are those that `split` gives
-pub segments-is : (name : List ℕ) → segments name ≡ slice_split (λ unit. unit == 47) name
-segments-is [] = refl
-segments-is (unit ∷ rest) =
-    rw (segments-is rest, in_front-is unit (slice_split (λ other. other == 47) rest))
-
 -- a name without a slash is one part
 pub segments-plain : (name : List ℕ) → All (λ unit. unit ≢ 47) name → segments name ≡ name ∷ []
 segments-plain name plain =
     segments-is name ∙ slice_split_none (λ unit. unit == 47) name (λ k d l. ne_eqb _ 47 (plain k d l))
 
-some_segment : (name : List ℕ) → 0 < length (segments name)
+-- a name has a part
+pub some_segment : (name : List ℕ) → 0 < length (segments name)
 some_segment name = omega (arith, ap length (segments-is name), length-slice_split (λ unit. unit == 47) name)
 
 in_front-append : (unit : ℕ) (parts : List (List ℕ)) (last : List ℕ) → 0 < length parts → in_front unit (parts ++ last ∷ []) ≡ in_front unit parts ++ last ∷ []

@@ -3,7 +3,8 @@ use Rattle.std.specs.Prelude.{ℕ, pos, negsuc, suc, ◌+◌, ◌==◌, Bool, tr
 use Rattle.std.specs.List.{flat_map}
 use Rattle.std.specs.Fmt.{decimal}
 use lib.Pointwise.{pointwise}
-use Rattle.dj_names.specs.Types.{JType, Boolean, Byte, Char, Short, Int, Long, Float, Double, Class, Array, Descriptor, Field, Method}
+use Rattle.dj_names.specs.ClassNames.{segments}
+use Rattle.dj_names.specs.Types.{JType, Boolean, Byte, Char, Short, Int, Long, Float, Double, Class, Array, parameters_of, result_of}
 use Rattle.dj_syntax.specs.declared.operator.Op.{Op}
 use Rattle.dj_syntax.specs.declared.operator.Op.TheVariants as op
 use Rattle.dj_syntax.specs.declared.variable.VarKind.{VarKind}
@@ -27,16 +28,6 @@ pub record Spellings : Type 0 where
   pub own : List ℕ
 
 -- ---- names
-
--- the first segment with this unit in front of it
-abbrev pub in_front : ℕ → List (List ℕ) → List (List ℕ)
-in_front unit [] = (unit ∷ []) ∷ []
-in_front unit (first ∷ rest) = (unit ∷ first) ∷ rest
-
--- the parts of a name between its slashes
-abbrev pub segments : List ℕ → List (List ℕ)
-segments [] = [] ∷ []
-segments (unit ∷ rest) = if unit == 47 then [] ∷ segments rest else in_front unit (segments rest)
 
 -- a class's name in full, with dots (JLS 6.7)
 abbrev pub dotted : List ℕ → List Item
@@ -188,27 +179,17 @@ field_items names interface field =
     Line 1 ∷ (modifiers_items (bit_and field.flags (field_bits interface (is_some field.value)))
     ++ (type_items names field.kind ++ Space ∷ word field.name ∷ value_items names field.value))
 
--- the helper: it throws its argument, whatever its class, past Java's rule on checked exceptions
-abbrev pub helper_items : Spellings → Option (List ℕ) → List Item
-helper_items names None = []
-helper_items names (Some name) =
+-- the helper: it throws its argument, past Java's rule on checked exceptions; it names classes in full, however the unit writes names
+abbrev pub helper_items : Option (List ℕ) → List Item
+helper_items None = []
+helper_items (Some name) =
     Line 1 ∷ word (codes "static") ∷ Space ∷ sign (codes "<") ∷ word (codes "T") ∷ Space ∷ word (codes "extends") ∷ Space
-    ∷ (names.class_name (codes "java/lang/Throwable") ++ sign (codes ">") ∷ Space
-    ∷ (names.class_name (codes "java/lang/RuntimeException") ++ Space ∷ word name ∷ sign (codes "(")
-    ∷ (names.class_name (codes "java/lang/Throwable") ++ Space ∷ word (codes "t") ∷ sign (codes ")") ∷ Space
+    ∷ (dotted (codes "java/lang/Throwable") ++ sign (codes ">") ∷ Space
+    ∷ (dotted (codes "java/lang/RuntimeException") ++ Space ∷ word name ∷ sign (codes "(")
+    ∷ (dotted (codes "java/lang/Throwable") ++ Space ∷ word (codes "t") ∷ sign (codes ")") ∷ Space
     ∷ word (codes "throws") ∷ Space ∷ word (codes "T") ∷ Space ∷ sign (codes "{")
     ∷ Line 2 ∷ word (codes "throw") ∷ Space ∷ sign (codes "(") ∷ word (codes "T") ∷ sign (codes ")") ∷ Space
     ∷ word (codes "t") ∷ sign (codes ";") ∷ Line 1 ∷ sign (codes "}") ∷ [])))
-
--- the parameter types of a descriptor
-abbrev pub parameters_of : Descriptor → List JType
-parameters_of (Field kind) = []
-parameters_of (Method parameters result) = parameters
-
--- the result of a descriptor, None for `void`
-abbrev pub result_of : Descriptor → Option JType
-result_of (Field kind) = Some kind
-result_of (Method parameters result) = result
 
 -- parameters from this number on, each with the comma before it
 abbrev pub more_parameters : Spellings → ℕ → List JType → List Item
@@ -282,7 +263,7 @@ unit_head_items names unit =
 abbrev pub members_items : Spellings → CompilationUnit → List Item
 members_items names unit =
     flat_map (field_items names (is_interface unit.flags)) unit.fields
-    ++ (helper_items names unit.helper ++ flat_map (method_items names (is_interface unit.flags)) unit.methods)
+    ++ (helper_items unit.helper ++ flat_map (method_items names (is_interface unit.flags)) unit.methods)
 
 -- a unit, given how it writes names
 abbrev pub unit_items : Spellings → CompilationUnit → List Item

@@ -2,11 +2,12 @@
 use Rattle.std.specs.Prelude.{◌≡◌, ◌≢◌, ℕ, ◌==◌, Bool, true, false, IsTrue, IsFalse, ◌&&◌, not, if◌then◌else◌, List, [], ◌∷◌, ◌++◌, Option, Some, None, IfSome, is_some, bit_and, bit_or, codes, ◌<◌, ◌^◌, FitsSigned}
 use Rattle.std.specs.Int.{w32}
 use Rattle.std.specs.List.{AllByRecursion}
-use Rattle.dj_names.specs.Types.{JType, Boolean, Byte, Char, Short, Int, Long, Float, Double, Class, Array, Descriptor, Field, Method}
+use Rattle.dj_names.specs.ClassNames.{segments}
+use Rattle.dj_names.specs.Types.{JType, Boolean, Byte, Char, Short, Int, Long, Float, Double, Class, Array, Descriptor, Field, Method, result_of}
 use Rattle.dj_names.specs.Identifiers.{IsDigit, IsIdentifier}
 use Rattle.dj_syntax.specs.Trees.{Exp, Variable, Binary, Stm, Block, Return, Stms, Empty, And, Body, FieldText, MethodText, CompilationUnit}
 use Rattle.dj_syntax.specs.Trees as trees
-use Rattle.dj_syntax.specs.UnitText.{segments, is_constructor, is_initialiser, is_interface, class_bits, field_bits, method_bits, result_of}
+use Rattle.dj_syntax.specs.UnitText.{is_constructor, is_initialiser, is_interface, class_bits, field_bits, method_bits}
 
 -- ---- names
 

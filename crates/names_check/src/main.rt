@@ -20,7 +20,7 @@ fn units_of(alloc: Global, bytes: &[u8]) -> Result<Units> {
             units.push(u16::from(*high) * 256 + u16::from(*low))?;
         }
     }
-    Ok(Units::from_vec(units))
+    Ok(Units::from_vec(units)?)
 }
 
 fn fault_line(alloc: Global, fault: &NameFault) -> Result<String> {

@@ -3,7 +3,7 @@
 ghost use Rattle.std.specs.Prelude.{◌≡◌, ◌++◌, IfSome, OnOk, option_map};
 ghost use Rattle.dj_syntax.specs.Items.{render};
 ghost use Rattle.dj_syntax.specs.Trees.{view_exp, view_field};
-ghost use Rattle.dj_syntax.specs.UnitText.{field_bits, field_items, helper_items, modifiers_items, modifier_items, value_items};
+ghost use Rattle.dj_syntax.specs.UnitText.{field_items, helper_items, modifiers_items, modifier_items, value_items};
 ghost use Rattle.dj_print.specs.Printable.{IsAsciiField, IsAsciiName};
 ghost use Rattle.dj_print.specs.Spelled.{spellings};
 
@@ -12,7 +12,7 @@ use crate::print::names::Names;
 use crate::print::text::{line, simple_name, text};
 use crate::print::types::type_name;
 use dj_names::Units;
-use dj_syntax::{Exp, FieldText};
+use dj_syntax::{Exp, FieldText, field_bits};
 use std::alloc::AllocError;
 
 /// Appends the modifiers whose bits are among these, each with a space behind it.
@@ -64,17 +64,6 @@ pub fn field(
     value(out, names, &field.value)
 }
 
-// The bits that a field shows: all but synthetic and enum, final only beside a value; in an interface static.
-fn field_bits(interface: bool, valued: bool) -> u16
-    ensures bits { result ≡ field_bits interface valued }
-{
-    match (interface, valued) {
-        (true, _) => 0x0008,
-        (false, true) => 0x00df,
-        (false, false) => 0x00cf,
-    }
-}
-
 // Appends the value of a field, where it has one, and the end of the field.
 fn value(out: &mut Vec<u8>, names: &Names, value: &Option<Exp>) -> Result<(), AllocError>
     ensures printed { OnOk result (out.new.items ≡ out.old.items ++ render (value_items (spellings names.now) (option_map view_exp value.now))) }
@@ -87,9 +76,9 @@ fn value(out: &mut Vec<u8>, names: &Names, value: &Option<Exp>) -> Result<(), Al
 }
 
 /// Appends the helper that throws its argument, where the unit has it.
-pub fn helper(out: &mut Vec<u8>, names: &Names, name: &Option<Units>) -> Result<(), AllocError>
+pub fn helper(out: &mut Vec<u8>, name: &Option<Units>) -> Result<(), AllocError>
     requires ascii { IfSome name.now IsAsciiName }
-    ensures printed { OnOk result (out.new.items ≡ out.old.items ++ render (helper_items (spellings names.now) name.now)) }
+    ensures printed { OnOk result (out.new.items ≡ out.old.items ++ render (helper_items name.now)) }
 {
     match name {
         None => Ok(()),

@@ -1,10 +1,10 @@
 //! Methods, constructors and static initialisers, on lines of their own with the line end before them.
 
 ghost use Rattle.std.specs.Prelude.{◌≡◌, ◌∷◌, ◌++◌, All, IfSome, OnOk, option_map, decimal};
-ghost use Rattle.dj_names.specs.Types.{view_descriptor, view_type, view_types};
+ghost use Rattle.dj_names.specs.Types.{parameters_of, result_of, view_descriptor, view_type, view_types};
 ghost use Rattle.dj_syntax.specs.Items.{render};
 ghost use Rattle.dj_syntax.specs.Trees.{view_body, view_method};
-ghost use Rattle.dj_syntax.specs.UnitText.{body_items, default_items, head_items, is_constructor, is_initialiser, method_bits, method_items, more_parameters, name_items, parameters_items, parameters_of, result_items, result_of, type_items};
+ghost use Rattle.dj_syntax.specs.UnitText.{body_items, default_items, head_items, method_items, more_parameters, name_items, parameters_items, result_items, type_items};
 ghost use Rattle.dj_print.specs.Printable.{IsAsciiDescriptor, IsAsciiMethod, IsAsciiName, IsAsciiType};
 ghost use Rattle.dj_print.specs.Spelled.{spellings};
 
@@ -14,13 +14,8 @@ use crate::print::statement::inner_list;
 use crate::print::text::{line, number, simple_name, text};
 use crate::print::types::type_name;
 use dj_names::{Descriptor, JType};
-use dj_syntax::{Body, MethodText};
+use dj_syntax::{Body, MethodText, is_constructor, is_initialiser, method_bits};
 use std::alloc::AllocError;
-
-// `<init>` and `<clinit>`, in units.
-const CONSTRUCTOR: [u16; 6] = [60, 105, 110, 105, 116, 62];
-
-const INITIALISER: [u16; 8] = [60, 99, 108, 105, 110, 105, 116, 62];
 
 /// Appends a method, a constructor or a static initialiser.
 pub fn method(
@@ -34,26 +29,12 @@ pub fn method(
     ensures printed { OnOk result (out.new.items ≡ out.old.items ++ render (method_items (spellings names.now) interface (view_method method.now))) }
 {
     line(out, 1)?;
-    if is_initialiser(method.name.as_slice()) {
+    if is_initialiser(&method.name) {
         text(out, b"static")?;
     } else {
         head(out, names, interface, method)?;
     }
     body(out, names, &method.body)
-}
-
-// Whether a name is that of a constructor.
-fn is_constructor(name: &[u16]) -> bool
-    ensures constructor { result ≡ is_constructor name.now }
-{
-    name == CONSTRUCTOR.as_slice()
-}
-
-// Whether a name is that of a static initialiser.
-fn is_initialiser(name: &[u16]) -> bool
-    ensures initialiser { result ≡ is_initialiser name.now }
-{
-    name == INITIALISER.as_slice()
 }
 
 // Appends the head of a method, up to its body.
@@ -76,13 +57,6 @@ fn head(
     class_list(out, names, b"throws", method.thrown.as_slice())
 }
 
-// The bits that a method shows: all but bridge, varargs, strict and synthetic; in an interface static.
-fn method_bits(interface: bool) -> u16
-    ensures bits { result ≡ method_bits interface }
-{
-    if interface { 0x0008 } else { 0x053f }
-}
-
 // Appends `default` where a method of an interface has a body and isn't static.
 fn default_word(out: &mut Vec<u8>, interface: bool, method: &MethodText) -> Result<(), AllocError>
     ensures printed { OnOk result (out.new.items ≡ out.old.items ++ render (default_items interface (view_method method.now))) }
@@ -99,7 +73,7 @@ fn result_and_name(out: &mut Vec<u8>, names: &Names, method: &MethodText) -> Res
     requires ascii { IsAsciiMethod (view_method method.now) }
     ensures printed { OnOk result (out.new.items ≡ out.old.items ++ render (name_items (spellings names.now) (view_method method.now))) }
 {
-    if is_constructor(method.name.as_slice()) {
+    if is_constructor(&method.name) {
         return simple_name(out, names.own.as_slice());
     }
     result_type(out, names, &method.descriptor)?;

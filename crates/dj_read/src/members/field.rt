@@ -8,10 +8,9 @@ ghost use Rattle.dj_read.specs.Places.{view_place};
 
 use crate::members::Place;
 use crate::values::read_value;
-use crate::well_formed::flags::held_field;
 use crate::words::Reader;
 use dj_names::{JType, Units};
-use dj_syntax::FieldText;
+use dj_syntax::{FieldText, held_field};
 use std::alloc::{AllocError, Global};
 
 /// A field from behind its name on: its value, where it has one, and the semicolon.

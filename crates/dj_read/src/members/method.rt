@@ -9,10 +9,9 @@ ghost use Rattle.dj_read.specs.Places.{view_place};
 use crate::bodies::read_statements;
 use crate::members::Place;
 use crate::names::{read_names, read_parameters, units_of};
-use crate::well_formed::flags::held_method;
 use crate::words::Reader;
-use dj_names::{Descriptor, Items, JType, Units, copy_names};
-use dj_syntax::{Body, MethodText, Stm};
+use dj_names::{Descriptor, Items, JType, SharedList, Units, copy_names};
+use dj_syntax::{Body, MethodText, Stm, held_method};
 use std::alloc::{AllocError, Global};
 
 /// The name of a constructor.
@@ -40,7 +39,7 @@ pub fn read_method(
         flags: bits,
         name,
         descriptor: Descriptor::Method {
-            parameters,
+            parameters: SharedList::from_vec(alloc, parameters)?,
             result: kind,
         },
         thrown,
@@ -63,7 +62,7 @@ pub fn read_initialiser(
         flags: bits,
         name: units_of(alloc, INITIALISER)?,
         descriptor: Descriptor::Method {
-            parameters: Items::new(alloc),
+            parameters: SharedList::from_vec(alloc, Vec::new(alloc))?,
             result: None,
         },
         thrown: Items::new(alloc),

@@ -2,20 +2,21 @@
 
 ghost use Rattle.std.specs.Prelude.{◌≡◌, ◌↔◌, [], ◌∷◌, ◌++◌, IsTrue, IfSome, map};
 ghost use Rattle.std.specs.List.{AllByRecursion};
-ghost use Rattle.dj_names.specs.Types.{Method, view_descriptor};
+ghost use Rattle.dj_names.specs.Types.{Method, result_of, view_descriptor};
 ghost use Rattle.dj_syntax.specs.Trees.{view_body, view_field, view_method, view_unit};
-ghost use Rattle.dj_syntax.specs.UnitText.{is_interface, result_of};
+ghost use Rattle.dj_syntax.specs.UnitText.{is_interface};
 ghost use Rattle.dj_syntax.specs.WellFormed.{HasHeadOf, HasMethodName, IsInitialiser, IsWellFormedBody, IsWellFormedField, IsWellFormedMethod, class_name};
 
-use crate::well_formed::flags::{held_field, held_method, is_interface};
 use crate::well_formed::names::{
-    SLASH, are_qualified, behind, is_constructor, is_initialiser, is_joined, is_method_descriptor,
-    is_named,
+    SLASH, are_qualified, behind, is_joined, is_method_descriptor, is_named,
 };
 use crate::well_formed::same::{same_descriptor, same_names};
 use crate::well_formed::trees::{are_well_formed_stms, is_well_formed_value};
 use dj_names::{Descriptor, is_identifier};
-use dj_syntax::{Body, FieldText, MethodText, Unit};
+use dj_syntax::{
+    Body, FieldText, MethodText, Unit, held_field, held_method, is_constructor, is_initialiser,
+    is_interface,
+};
 
 /// Whether each field is well formed.
 pub fn are_well_formed_fields(interface: bool, fields: &[FieldText]) -> bool
@@ -60,9 +61,9 @@ fn is_well_formed_method(unit: &Unit, method: &MethodText) -> bool
 fn has_method_name(method: &MethodText) -> bool
     ensures name { IsTrue result ↔ HasMethodName (view_method method.now) }
 {
-    if is_constructor(method.name.as_slice()) {
+    if is_constructor(&method.name) {
         has_no_result(&method.descriptor)
-    } else if is_initialiser(method.name.as_slice()) {
+    } else if is_initialiser(&method.name) {
         is_initialiser_head(method)
     } else {
         is_identifier(&method.name)

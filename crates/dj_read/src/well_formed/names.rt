@@ -1,22 +1,15 @@
-//! Names of classes, methods and helpers, and the types and descriptors that name classes (JLS 3.8, 6.7; JVMS 2.9, 4.3).
+//! Names of classes, methods and helpers, and the types and descriptors that name classes (JLS 3.8, 6.7; JVMS 4.3).
 
 ghost use Rattle.std.specs.Prelude.{◌≡◌, ◌≢◌, ◌↔◌, ℕ, List, ◌++◌, IsTrue, IfSome, MatchOption, option_map};
 ghost use Rattle.std.specs.List.{AllByRecursion};
 ghost use Rattle.dj_names.specs.Identifiers.{IsDigit};
 ghost use Rattle.dj_names.specs.Types.{view_descriptor, view_type, view_types};
-ghost use Rattle.dj_syntax.specs.UnitText.{is_constructor, is_initialiser};
 ghost use Rattle.dj_syntax.specs.WellFormed.{IsDecimalNumeral, IsHelperName, IsMethodDescriptor, IsNamed, IsQualified};
 
 use dj_names::{ClassName, Descriptor, JType, spells_identifier};
 
 /// What stands between the segments of a class's name.
 pub const SLASH: u16 = b'/' as u16;
-
-/// `<init>`, in units.
-const CONSTRUCTOR: [u16; 6] = [60, 105, 110, 105, 116, 62];
-
-/// `<clinit>`, in units.
-const INITIALISER: [u16; 8] = [60, 99, 108, 105, 110, 105, 116, 62];
 
 /// `rethrow$`, in units.
 const RETHROW: [u16; 8] = [114, 101, 116, 104, 114, 111, 119, 36];
@@ -83,20 +76,6 @@ pub fn is_method_descriptor(descriptor: &Descriptor) -> bool
             are_named(parameters.as_slice()) && is_named_result(result)
         }
     }
-}
-
-/// Whether a name is that of a constructor.
-pub fn is_constructor(name: &[u16]) -> bool
-    ensures constructor { result ≡ is_constructor name.now }
-{
-    name == CONSTRUCTOR.as_slice()
-}
-
-/// Whether a name is that of a static initialiser.
-pub fn is_initialiser(name: &[u16]) -> bool
-    ensures initialiser { result ≡ is_initialiser name.now }
-{
-    name == INITIALISER.as_slice()
 }
 
 /// Whether a name is that of a helper.

@@ -5,7 +5,7 @@ use Rattle.dj_read.proofs.names.read_parameters.Given as goal
 
 abbrev pub invariant-loop-alloc : goal.invariant-loop-alloc
 invariant-loop-alloc l =
-    more_parameters (view_types l.kinds) None l.reader ≡ more_parameters (view_types l.initial.kinds) None l.initial.reader
+    more_parameters (view_types l.kinds.items) None l.reader ≡ more_parameters (view_types l.initial.kinds.items) None l.initial.reader
 
 abbrev pub decreases-loop-alloc : goal.decreases-loop-alloc
 decreases-loop-alloc l = length l.reader

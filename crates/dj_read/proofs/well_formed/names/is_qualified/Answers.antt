@@ -3,7 +3,7 @@ use Rattle.std.specs.List.{slice_split}
 use Rattle.std.proofs.lemmas.Iterator.{cases_from_all}
 use Rattle.std.proofs.lemmas.Iterator.Splits.{YieldsList-from_slice_split}
 use Rattle.dj_names.specs.Identifiers.{IsIdentifier}
-use Rattle.dj_syntax.proofs.MethodNames.{segments-is}
+use Rattle.dj_names.proofs.SegmentLemmas.{segments-is}
 use Rattle.dj_read.proofs.ListTests.{each_found}
 use Rattle.dj_read.proofs.well_formed.names.is_qualified.Goals as goal
 
