@@ -1,85 +1,37 @@
--- How a run ends: facts of one answer weakened, and what was told for files as the output on them.
-use Rattle.std.proofs.Common.{◌≡◌, ℕ, ◌+◌, List, ◌++◌, length, map, take, Option, Some, None, Result, Ok, Err, sym, ap, ◌∙◌, subst, inl, inr}
+-- How a run ends: facts of its answers weakened, and what was told of files as what they hold.
+use Rattle.std.proofs.Common.{◌≡◌, ℕ, List, Option, Some, None, Result, Ok, Err, sym, subst, inl, inr}
 use Rattle.std.specs.Prelude.{IfSome}
-use Rattle.std.proofs.lemmas.List.{take-map}
+use Rattle.std.specs.List.{AllZip}
 use Rattle.std.specs.declared.alloc.AllocError.{AllocError}
-use Rattle.dj_outer.specs.Files.{file_named}
+use Rattle.dj_cli.specs.declared.status.UsageKind.{UsageKind}
 use Rattle.dj_cli.specs.declared.status.Status.{Status}
 use Rattle.dj_cli.specs.declared.status.Status.TheVariants.{Clean, Refused, Usage, ReadFault, TextFault, ReportFault, TooMuch}
-use Rattle.dj_cli.specs.Status.{OnTextFault, OnReportFault}
+use Rattle.dj_cli.specs.Status.{MatchEnd, OnReportFault}
 use Rattle.dj_cli.specs.Run.{EndsSo}
-use Rattle.dj_cli.specs.Program.{Files, first_answers, first_output, AndNextFile, WroteTextFront, WroteReportFront}
+use Rattle.dj_cli.specs.Output.{Files, FileIs, IsFile, AreContents, Setting, OfFiles}
 
-pub on_text_weaker : {P Q : Type 0} (result : Result Status AllocError) → (P → Q) → OnTextFault result P → OnTextFault result Q
-on_text_weaker (Ok Clean) weaker holds = holds
-on_text_weaker (Ok Refused) weaker holds = holds
-on_text_weaker (Ok (Usage kind)) weaker holds = holds
-on_text_weaker (Ok (ReadFault place)) weaker holds = holds
-on_text_weaker (Ok TextFault) weaker holds = weaker holds
-on_text_weaker (Ok ReportFault) weaker holds = holds
-on_text_weaker (Ok (TooMuch place)) weaker holds = holds
-on_text_weaker (Err error) weaker holds = holds
+-- what follows from the facts of each answer, where it follows at that answer
+pub end-weaker : {C D R S T V W X : Type 0} {U O L N M Q : ℕ → Type 0} {K J : UsageKind → Type 0} (result : Result Status AllocError) → (C → D) → (R → S) → ((kind : UsageKind) → K kind → J kind) → ((place : ℕ) → L place → N place) → (T → V) → (W → X) → ((place : ℕ) → M place → Q place)
+    → MatchEnd result C R K L T W M → MatchEnd result D S J N V X Q
+end-weaker (Ok Clean) clean refused usage read text report much holds = clean holds
+end-weaker (Ok Refused) clean refused usage read text report much holds = refused holds
+end-weaker (Ok (Usage kind)) clean refused usage read text report much holds = usage kind holds
+end-weaker (Ok (ReadFault place)) clean refused usage read text report much holds = read place holds
+end-weaker (Ok TextFault) clean refused usage read text report much holds = text holds
+end-weaker (Ok ReportFault) clean refused usage read text report much holds = report holds
+end-weaker (Ok (TooMuch place)) clean refused usage read text report much holds = much place holds
+end-weaker (Err error) clean refused usage read text report much holds = holds
 
-pub on_report_weaker : {P Q : Type 0} (result : Result Status AllocError) → (P → Q) → OnReportFault result P → OnReportFault result Q
-on_report_weaker (Ok Clean) weaker holds = holds
-on_report_weaker (Ok Refused) weaker holds = holds
-on_report_weaker (Ok (Usage kind)) weaker holds = holds
-on_report_weaker (Ok (ReadFault place)) weaker holds = holds
-on_report_weaker (Ok TextFault) weaker holds = holds
-on_report_weaker (Ok ReportFault) weaker holds = weaker holds
-on_report_weaker (Ok (TooMuch place)) weaker holds = holds
-on_report_weaker (Err error) weaker holds = holds
+-- a run that ends with a last line ends with a fault of the report only where the line was cut off
+pub ends-report : (ended status : Status) (put cut R : Type 0) → OnReportFault (Ok status) R → (cut → R) → EndsSo ended status put cut → OnReportFault (Ok ended) R
+ends-report ended status put cut R at_status of_cut (inl ends) = subst (λ s. OnReportFault (Ok s) R) (sym ends.0) at_status
+ends-report ended status put cut R at_status of_cut (inr ends) = subst (λ s. OnReportFault (Ok s) R) (sym ends.0) (of_cut ends.1)
 
--- a run that ends with a last line ends with a fault of the report only where the line was cut
-pub ends_report : (ended status : Status) (put cut R : Type 0) → OnReportFault (Ok status) R → (cut → R) → EndsSo ended status put cut → OnReportFault (Ok ended) R
-ends_report ended status put cut R at_status of_cut (inl ends) = subst (λ s. OnReportFault (Ok s) R) (sym ends.0) at_status
-ends_report ended status put cut R at_status of_cut (inr ends) = subst (λ s. OnReportFault (Ok s) R) (sym ends.0) (of_cut ends.1)
-
--- the answers to so many first files are the output on them
-first_is_output : (files : Files) (names contents : List (List ℕ)) (count : ℕ) (text lines : List ℕ) → map (file_named files) names ≡ map Some contents
-    → first_answers names contents count text lines → first_output files names count text lines
-first_is_output files names contents count text lines loaded answers = record {
-  contents = take count contents;
-  loaded = sym (take-map (file_named files) count names) ∙ ap (take count) loaded ∙ take-map Some count contents;
-  answers = answers;
-}
-
--- the same with the next file
-next_of_output : (files : Files) (names contents : List (List ℕ)) (text lines next_text next_lines : List ℕ) → map (file_named files) names ≡ map Some contents
-    → AndNextFile (first_answers names contents) (length names) text lines next_text next_lines → AndNextFile (first_output files names) (length names) text lines next_text next_lines
-next_of_output files names contents text lines next_text next_lines loaded next = record {
-  files = next.files;
-  due = next.due;
-  earlier = first_is_output files names contents next.files text lines loaded next.earlier;
-  answer = first_is_output files names contents (next.files + 1) (text ++ next_text) (lines ++ next_lines) loaded next.answer;
-}
-
--- what a cut text leaves of the answers is what it leaves of the output
-pub text_front_of_output : (held : Option Files) (names contents : List (List ℕ)) (text_old text_new report_old report_new : Option (List ℕ))
-    → IfSome held (λ files. map (file_named files) names ≡ map Some contents) → WroteTextFront (first_answers names contents) (length names) text_old text_new report_old report_new
-    → IfSome held (λ files. WroteTextFront (first_output files names) (length names) text_old text_new report_old report_new)
-text_front_of_output None names contents text_old text_new report_old report_new loaded front = loaded
-text_front_of_output (Some files) names contents text_old text_new report_old report_new loaded front = record {
-  text = front.text;
-  lines = front.lines;
-  next_text = front.next_text;
-  next_lines = front.next_lines;
-  next = next_of_output files names contents front.text front.lines front.next_text front.next_lines loaded front.next;
-  text_taken = front.text_taken;
-  report_taken = front.report_taken;
-}
-
--- what a cut report leaves of the answers is what it leaves of the output
-pub report_front_of_output : (held : Option Files) (names contents : List (List ℕ)) (text_old text_new report_old report_new : Option (List ℕ))
-    → IfSome held (λ files. map (file_named files) names ≡ map Some contents) → WroteReportFront (first_answers names contents) (length names) text_old text_new report_old report_new
-    → IfSome held (λ files. WroteReportFront (first_output files names) (length names) text_old text_new report_old report_new)
-report_front_of_output None names contents text_old text_new report_old report_new loaded front = loaded
-report_front_of_output (Some files) names contents text_old text_new report_old report_new loaded front = record {
-  text = front.text;
-  lines = front.lines;
-  next_text = front.next_text;
-  next_lines = front.next_lines;
-  next = next_of_output files names contents front.text front.lines front.next_text front.next_lines loaded front.next;
-  text_taken = front.text_taken;
-  report_taken = front.report_taken;
-}
+-- what was told of files that were loaded and read is told of what is held
+pub of_files : (held : Option Files) (names contents : List (List ℕ)) (found : List FileIs) (Told : List (List ℕ) → List FileIs → Type 0)
+    → IfSome held (λ files. AreContents files names contents) → AllZip IsFile contents found → Told names found → OfFiles held names Told
+of_files held names contents found Told loaded read told = record { found = found; setting = setting held loaded; told = told }
+  where
+    setting : (held : Option Files) → IfSome held (λ files. AreContents files names contents) → IfSome held (λ files. Setting files names found)
+    setting None loaded = loaded
+    setting (Some files) loaded = record { contents = contents; are = loaded; files = read }

@@ -31,6 +31,7 @@ pub use header::{Header, Headers};
 pub use identifiers::{is_identifier, spells_identifier};
 pub use members::{ClassMembers, Constant, Field, Member, Members, MethodHead};
 pub use relations::paths_can_be_cut;
+pub use shown::{hex_digit, is_shown_plain};
 pub use sqlite_items::{Boxed, Items};
 pub use static_type::StaticType;
 pub use types::JType;
