@@ -59,8 +59,13 @@ puts-then {result = Err fault} {old = old} {between = between} {new = new} {befo
   never_falls = omega (arith, one.never_falls, two.never_falls);
 }
 
--- a put that fails fails for all that was to follow it
-pub puts-stop : {fault : Failed} {old new : Option (List ℕ)} {before after : ℕ} {first : List ℕ} (second : List ℕ)
-    → Puts (Err fault) old new before after first → Puts (Err fault) old new before after (first ++ second)
-puts-stop {old = old} {new = new} {first = first} second one =
-    record { ok = tt; prefix = prefix-stop old new first second one.prefix; failed = one.failed; never_falls = one.never_falls }
+-- a put that failed, whose fault is answered, failed for all that was to follow it
+pub puts-stop : {result : Result (Unit {0}) Failed} {fault other : Failed} {old new : Option (List ℕ)} {before after : ℕ} {first : List ℕ} → result ≡ Err other → (second : List ℕ)
+    → Puts (Err fault) old new before after first → Puts result old new before after (first ++ second)
+puts-stop {other = other} {old = old} {new = new} {before = before} {after = after} {first = first} is second one =
+    let stopped : Puts (Err other) old new before after (first ++ second) = record { ok = tt; prefix = prefix-stop old new first second one.prefix; failed = one.failed; never_falls = one.never_falls } in
+    subst (λ result. Puts result old new before after (first ++ second)) (sym is) stopped
+
+-- an equal piece
+pub puts-as : {result : Result (Unit {0}) Failed} {old new : Option (List ℕ)} {before after : ℕ} {first second : List ℕ} → first ≡ second → Puts result old new before after first → Puts result old new before after second
+puts-as {result = result} {old = old} {new = new} {before = before} {after = after} same one = subst (Puts result old new before after) same one
