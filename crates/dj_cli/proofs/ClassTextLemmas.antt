@@ -3,11 +3,12 @@ use Rattle.std.proofs.Common.{◌≡◌, ◌≢◌, ℕ, false, List, [], ◌∷
 use Rattle.std.specs.Prelude.{IfSome}
 use Rattle.std.specs.List.{AllByRecursion}
 use Rattle.std.proofs.lemmas.List.Elements.{recursion_from_All}
+use Rattle.dj_names.specs.ClassNames.{segments}
 use Rattle.dj_names.specs.Identifiers.{IsIdentifier}
+use Rattle.dj_names.specs.Sayable.{IsSayable}
 use Rattle.dj_class.specs.ResolvedClass.{ClassOf, MethodOf}
-use Rattle.dj_class.specs.FirstForm.{IsSayable}
 use Rattle.dj_syntax.specs.Trees.{Exp, Body, CompilationUnit}
-use Rattle.dj_syntax.specs.UnitText.{segments, is_initialiser, is_interface}
+use Rattle.dj_syntax.specs.UnitText.{is_initialiser, is_interface}
 use Rattle.dj_syntax.specs.WellFormed.{IsWellFormed, IsWellFormedMethod, IsWellFormedExp, IsQualified, HasMethodName, class_name, held_class, held_method}
 use Rattle.dj_syntax.proofs.MethodNames.{identifier_is_no_method_keyword, IsMethodDescriptor-ints, segments-is, segments-plain, segments-append}
 use Rattle.dj_print.specs.Printable.{IsAsciiName}
@@ -22,7 +23,7 @@ AllByRecursion-front P (first ∷ front) last all = let rest = AllByRecursion-fr
 
 -- the segments of a name that can be said are identifiers
 qualified : (name : List ℕ) → IsSayable name → IsQualified name
-qualified name sayable = rw segments-is (recursion_from_All IsIdentifier _ sayable.identifiers)
+qualified name sayable = recursion_from_All IsIdentifier (segments name) sayable.identifiers
 
 -- a class's name is of characters below 128
 pub ascii_name : (name : List ℕ) → IsSayable name → IsAsciiName name

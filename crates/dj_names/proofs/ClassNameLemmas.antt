@@ -6,7 +6,7 @@ use Rattle.std.proofs.lemmas.List.Elements.{recursion_from_All, All-from_recursi
 use Rattle.std.proofs.lemmas.Bool.{false≢true}
 use Rattle.std.proofs.lemmas.Bool.Decides.{nat_tests, eqb_tells}
 use Rattle.dj_names.specs.ClassNames.{IsUnqualifiedName, joined, IsClassName}
-use Rattle.dj_names.specs.Reading.{Begins, IsStuck, Stops, SpellsClass, MayFollow}
+use Rattle.dj_names.specs.Reading.{Begins, IsStuck, StopsIn, SpellsClassName, MayFollow}
 use Rattle.dj_names.proofs.Stopping.{stops_here, stops_after}
 
 -- a unit of a segment
@@ -57,7 +57,7 @@ ends_segments : (segments : List (List ℕ)) → segments ≢ [] → AllByRecurs
 ends_segments [] some h = absurd (some refl)
 ends_segments (segment ∷ rest) some h = ends_joined segment rest h
 
-pub ends_class : (units : List ℕ) → SpellsClass units → EndsName false units
+pub ends_class : (units : List ℕ) → SpellsClassName units → EndsName false units
 ends_class units h =
     let i = h.name_is in
     subst (EndsName false) (ap (λ name. name ++ 59 ∷ []) i.is_joined ∙ h.spelled) (ends_segments i.segments i.some_segment (recursion_from_All IsUnqualifiedName i.segments i.unqualified))
@@ -120,7 +120,7 @@ segments_of started (unit ∷ units) (follows, rest) =
           ]
     ]
 
-pub class_ends : (units : List ℕ) → EndsName false units → SpellsClass units
+pub class_ends : (units : List ℕ) → EndsName false units → SpellsClassName units
 class_ends units h =
     let s = segments_of false units h in
     record {
@@ -136,16 +136,16 @@ class_ends units h =
 
 -- so many units of a name were read, and these may follow
 pub record NameRead (read : List ℕ) (started : Bool) : Type 0 where
-  pub into : (u : List ℕ) → EndsName started u → SpellsClass (read ++ u)
-  pub out : (u : List ℕ) → SpellsClass (read ++ u) → EndsName started u
+  pub into : (u : List ℕ) → EndsName started u → SpellsClassName (read ++ u)
+  pub out : (u : List ℕ) → SpellsClassName (read ++ u) → EndsName started u
 
 pub NameRead-none : NameRead [] false
 NameRead-none = record { into = class_ends; out = ends_class }
 
 pub NameRead-push : (read : List ℕ) (started : Bool) (unit : ℕ) → NameRead read started → MayFollow started unit → unit ≢ 59 → NameRead (read ++ unit ∷ []) (not (nat_eq unit 47))
 NameRead-push read started unit h follows goes = record {
-  into = λ u on. subst SpellsClass (sym (append_assoc read (unit ∷ []) u)) (h.into (unit ∷ u) (follows, rw (test_fails unit 59 goes) on));
-  out = λ u is. let on : EndsName started (unit ∷ u) = h.out (unit ∷ u) (subst SpellsClass (append_assoc read (unit ∷ []) u) is) in
+  into = λ u on. subst SpellsClassName (sym (append_assoc read (unit ∷ []) u)) (h.into (unit ∷ u) (follows, rw (test_fails unit 59 goes) on));
+  out = λ u is. let on : EndsName started (unit ∷ u) = h.out (unit ∷ u) (subst SpellsClassName (append_assoc read (unit ∷ []) u) is) in
       let P : Bool → Type 0 = λ b. MatchBool b (u ≡ []) (EndsName (not (nat_eq unit 47)) u) in subst P (test_fails unit 59 goes) on.1;
 }
 
@@ -173,6 +173,6 @@ goes_on started = record {
 }
 
 -- where the next unit may not follow, or none is left, reading stops
-pub NameRead-stops : (read : List ℕ) (started : Bool) (left : List ℕ) → NameRead read started → IsStuck (EndsName started) [] left → Stops SpellsClass (read ++ left) left
+pub NameRead-stops : (read : List ℕ) (started : Bool) (left : List ℕ) → NameRead read started → IsStuck (EndsName started) [] left → StopsIn SpellsClassName (read ++ left) left
 NameRead-stops read started left h stuck =
-    stops_after SpellsClass (EndsName started) read left left h.into h.out (stops_here (EndsName started) left (goes_on started) (λ is. is) stuck)
+    stops_after SpellsClassName (EndsName started) read left left h.into h.out (stops_here (EndsName started) left (goes_on started) (λ is. is) stuck)

@@ -3,8 +3,8 @@ use Rattle.std.proofs.Common.{◌≡◌, ◌≢◌, ℕ, zero, suc, ◌-◌, ◌
 use Rattle.std.proofs.lemmas.List.{append_assoc, append-nil, length-append, take_at}
 use Rattle.std.proofs.lemmas.List.Elements.{All-head, All-tail}
 use Rattle.dj_names.specs.Types.{JType, Descriptor, Field, Method}
-use Rattle.dj_names.specs.Descriptors.{spell_type, spell_result, spell_descriptor, IsType, IsDescriptor, BeginsDescriptor, IsNoDescriptor}
-use Rattle.dj_names.specs.Reading.{IsStuck, Stops, StopsAt, SpellsType, SpellsRest, SpellsSome, Halts, HaltsAt}
+use Rattle.dj_names.specs.Descriptors.{spell_type, spell_result, spell_descriptor, IsType, IsDescriptor, SpellsDescriptor, BeginsDescriptor, IsNoDescriptor}
+use Rattle.dj_names.specs.Reading.{IsStuck, StopsIn, StopsAt, SpellsType, SpellsRest, SpellsSome, HaltsUnspelled, HaltsAt}
 use Rattle.dj_names.specs.declared.descriptors.Stop.{Stop}
 use Rattle.dj_names.specs.declared.descriptors.Stop.TheVariants.{Here, Memory}
 use Rattle.dj_names.proofs.Stopping.{stops_after, stops_wider}
@@ -39,7 +39,7 @@ method_out : (u : List ℕ) → SpellsSome (40 ∷ u) → SpellsRest 255 u
 method_out u s = method_part u s.descriptor s.spells.descriptor_is s.spells.spelled
 
 pub method_stopped : (stop : Stop) (old units left : List ℕ) → old ≡ 40 ∷ units → StopsAt stop (SpellsRest 255) units left → StopsAt stop SpellsSome old left
-method_stopped Here old units left is s = subst (λ u. Stops SpellsSome u left) (sym is) (stops_after SpellsSome (SpellsRest 255) (40 ∷ []) units left method_into method_out s)
+method_stopped Here old units left is s = subst (λ u. StopsIn SpellsSome u left) (sym is) (stops_after SpellsSome (SpellsRest 255) (40 ∷ []) units left method_into method_out s)
 method_stopped (Memory error) old units left is s = tt
 
 spell_descriptor-nonempty : (descriptor : Descriptor) → spell_descriptor descriptor ≢ []
@@ -103,6 +103,16 @@ one_descriptor (Method parameters result) (Method others other) rest more h k e 
     let results = one_result result other rest more h.2 k.2 lists.1 in
     ((let g : Method parameters result ≡ Method others other = cc (lists.0, results.0) in g), results.1)
 
+-- units spell one descriptor
+pub one_spelled : (units : List ℕ) (descriptor other : Descriptor) → SpellsDescriptor units descriptor → SpellsDescriptor units other → descriptor ≡ other
+one_spelled units descriptor other first second =
+    (one_descriptor descriptor other [] [] first.descriptor_is second.descriptor_is (append-nil (spell_descriptor descriptor) ∙ first.spelled ∙ sym second.spelled ∙ sym (append-nil (spell_descriptor other)))).0
+
+-- the same for a reader that began with all of the units
+pub only_descriptor : (units all old : List ℕ) (read : Descriptor) → old ≡ all → all ≡ units → SpellsDescriptor old read → (descriptor : Descriptor) → SpellsDescriptor units descriptor → read ≡ descriptor
+only_descriptor units all old read is whole spells descriptor other =
+    one_spelled units read descriptor (subst (λ u. SpellsDescriptor u read) (is ∙ whole) spells) other
+
 -- a reader that stops in a descriptor has read none
 unspelled_at : (left units front : List ℕ) → front ++ left ≡ units → IsStuck SpellsSome front left → ¬ SpellsSome front → ¬ SpellsSome units
 unspelled_at [] units front split stuck unfinished whole = unfinished (subst SpellsSome (sym split ∙ append-nil front) whole)
@@ -113,7 +123,7 @@ pub halts_stopped : (stop : Stop) (units left : List ℕ) → StopsAt stop Spell
 halts_stopped Here units left s = record { front = s.front; split = s.split; begins = s.begins; stuck = s.stuck; unspelled = unspelled_at left units s.front s.split s.stuck s.unfinished }
 halts_stopped (Memory error) units left s = tt
 
-trailing : (units left : List ℕ) (descriptor : Descriptor) (unit : ℕ) (rest : List ℕ) → IsDescriptor descriptor → spell_descriptor descriptor ++ (unit ∷ rest) ≡ units → Halts units (unit ∷ rest)
+trailing : (units left : List ℕ) (descriptor : Descriptor) (unit : ℕ) (rest : List ℕ) → IsDescriptor descriptor → spell_descriptor descriptor ++ (unit ∷ rest) ≡ units → HaltsUnspelled units (unit ∷ rest)
 trailing units left descriptor unit rest h split = record {
   front = spell_descriptor descriptor;
   split = split;
@@ -128,9 +138,9 @@ trailing units left descriptor unit rest h split = record {
         (let f : unit ∷ more ≡ [] = e.1 in let none : ⊥ = cc in none)
 
 -- a descriptor that something follows
-pub halts_after : (units left : List ℕ) (descriptor : Descriptor) (unit : ℕ) → IsDescriptor descriptor → spell_descriptor descriptor ++ left ≡ units → (rest : List ℕ) × (left ≡ unit ∷ rest) → Halts units left
+pub halts_after : (units left : List ℕ) (descriptor : Descriptor) (unit : ℕ) → IsDescriptor descriptor → spell_descriptor descriptor ++ left ≡ units → (rest : List ℕ) × (left ≡ unit ∷ rest) → HaltsUnspelled units left
 halts_after units left descriptor unit h split (rest, is) =
-    subst (Halts units) (sym is) (trailing units left descriptor unit rest h (ap (λ u. spell_descriptor descriptor ++ u) (sym is) ∙ split))
+    subst (HaltsUnspelled units) (sym is) (trailing units left descriptor unit rest h (ap (λ u. spell_descriptor descriptor ++ u) (sym is) ∙ split))
 
 -- the first units of a list, past a front and the next unit
 longer_take : (front : List ℕ) (unit : ℕ) (left : List ℕ) (n : ℕ) → length front < n → (rest : List ℕ) × (take n (front ++ (unit ∷ left)) ≡ (front ++ unit ∷ []) ++ rest)
@@ -152,7 +162,7 @@ none_longer units front (unit ∷ left) split stuck n l m b =
     })
 
 -- where a reader halts, the longest prefix that begins a descriptor ends
-pub halts_place : (units left : List ℕ) (h : Halts units left) → IsNoDescriptor units (length units - length left)
+pub halts_place : (units left : List ℕ) (h : HaltsUnspelled units left) → IsNoDescriptor units (length units - length left)
 halts_place units left h =
     let size : length units - length left ≡ length h.front = omega (arith, ap length h.split, length-append h.front left) in
     subst (IsNoDescriptor units) (sym size) (record {
@@ -166,4 +176,4 @@ halts_place units left h =
 -- the same for a reader that began with all of the units
 pub halted : (stop : Stop) (units all old left : List ℕ) → stop ≡ Here → old ≡ all → all ≡ units → HaltsAt stop old left → IsNoDescriptor units (length units - length left)
 halted stop units all old left here is whole h =
-    halts_place units left (subst (λ u. Halts u left) (is ∙ whole) (subst (λ s. HaltsAt s old left) here h))
+    halts_place units left (subst (λ u. HaltsUnspelled u left) (is ∙ whole) (subst (λ s. HaltsAt s old left) here h))

@@ -8,4 +8,5 @@ pub mod Stopping
 pub mod ClassNameLemmas
 pub mod OneSpelling
 pub mod IdentifiersLemmas
+pub mod SegmentLemmas
 pub mod HeadersLemmas

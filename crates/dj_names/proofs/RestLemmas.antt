@@ -6,7 +6,7 @@ use Rattle.std.proofs.lemmas.List.Elements.{All-nil, All-cons, All-head, All-tai
 use Rattle.std.proofs.lemmas.List.Sums.{sum_by-cons, sum_by_push}
 use Rattle.dj_names.specs.Types.{JType, Boolean, Byte, Char, Short, Int, Long, Float, Double, Class, Array}
 use Rattle.dj_names.specs.Descriptors.{spell_type, spell_result, words, IsType}
-use Rattle.dj_names.specs.Reading.{Begins, IsStuck, Stops, StopsAt, IsTypeWithin, SpellsType, SpellsResult, AreParameters, SpellsRest}
+use Rattle.dj_names.specs.Reading.{Begins, IsStuck, StopsIn, StopsAt, IsTypeWithin, SpellsType, SpellsResult, AreParameters, SpellsRest}
 use Rattle.dj_names.specs.declared.descriptors.Stop.{Stop}
 use Rattle.dj_names.specs.declared.descriptors.Stop.TheVariants.{Here, Memory}
 use Rattle.dj_names.proofs.Stopping.{stops_here, stops_after, stops_wider}
@@ -84,7 +84,7 @@ closed_out room u s = elim (cases_of room (41 ∷ u) s) [
 ]
 
 -- where the result stops, what follows the `)` does
-pub result_stops : (room : ℕ) (units left : List ℕ) → Stops SpellsResult units left → Stops (SpellsRest room) (41 ∷ units) left
+pub result_stops : (room : ℕ) (units left : List ℕ) → StopsIn SpellsResult units left → StopsIn (SpellsRest room) (41 ∷ units) left
 result_stops room units left s = stops_after (SpellsRest room) SpellsResult (41 ∷ []) units left (closed_into room) (closed_out room) s
 
 pub type_into : (room : ℕ) (type : JType) → IsTypeWithin 255 room type → (u : List ℕ) → SpellsRest (room - words type) u → SpellsRest room (spell_type type ++ u)
@@ -126,8 +126,8 @@ rest_is_some room s = elim (cases_of room [] s) [
   | inr first ↦ nonempty_first first.type first.more first.spelled
 ]
 
-pub rest_stops_at_end : (room : ℕ) (old : List ℕ) → old ≡ [] → Stops (SpellsRest room) old old
-rest_stops_at_end room old is = subst (λ u. Stops (SpellsRest room) u u) (sym is) (stops_here (SpellsRest room) [] (rest_begins room) (rest_is_some room) tt)
+pub rest_stops_at_end : (room : ℕ) (old : List ℕ) → old ≡ [] → StopsIn (SpellsRest room) old old
+rest_stops_at_end room old is = subst (λ u. StopsIn (SpellsRest room) u u) (sym is) (stops_here (SpellsRest room) [] (rest_begins room) (rest_is_some room) tt)
 
 no_room : (unit : ℕ) (u : List ℕ) → unit ≢ 41 → ¬ SpellsRest 0 (unit ∷ u)
 no_room unit u going s = elim (cases_of 0 (unit ∷ u) s) [
@@ -136,10 +136,10 @@ no_room unit u going s = elim (cases_of 0 (unit ∷ u) s) [
 ]
 
 -- no parameter fits any more
-pub rest_stops_full : (room unit : ℕ) (old : List ℕ) → room ≡ 0 → unit ≢ 41 → (rest : List ℕ) × (old ≡ unit ∷ rest) → Stops (SpellsRest room) old old
+pub rest_stops_full : (room unit : ℕ) (old : List ℕ) → room ≡ 0 → unit ≢ 41 → (rest : List ℕ) × (old ≡ unit ∷ rest) → StopsIn (SpellsRest room) old old
 rest_stops_full room unit old none going (rest, is) =
-    subst (λ r. Stops (SpellsRest r) old old) (sym none)
-    (subst (λ u. Stops (SpellsRest 0) u u) (sym is) (stops_here (SpellsRest 0) (unit ∷ rest) (rest_begins 0) (rest_is_some 0) (λ b. no_room unit b.rest going b.whole)))
+    subst (λ r. StopsIn (SpellsRest r) old old) (sym none)
+    (subst (λ u. StopsIn (SpellsRest 0) u u) (sym is) (stops_here (SpellsRest 0) (unit ∷ rest) (rest_begins 0) (rest_is_some 0) (λ b. no_room unit b.rest going b.whole)))
 
 -- two ways to cut one list: the second cut stands after the first, or before it
 pub two_cuts : (xs ys bs ds : List ℕ) → xs ++ ys ≡ bs ++ ds → ((c : List ℕ) × (bs ≡ xs ++ c) × (ys ≡ c ++ ds)) ⊎ ((c : List ℕ) × (xs ≡ bs ++ c) × (ds ≡ c ++ ys))
@@ -170,7 +170,7 @@ not_closed (x ∷ front) left units u v first later is going split some e =
     let b : 41 ≡ x = cc in
     going (sym a ∙ sym b)
 
-module _ (room : ℕ) (units left : List ℕ) (s : Stops (SpellsType 255 room) units left) where
+module _ (room : ℕ) (units left : List ℕ) (s : StopsIn (SpellsType 255 room) units left) where
   -- what was read of a type has no whole type in front
   no_whole : (type : JType) (c : List ℕ) → IsTypeWithin 255 room type → s.front ≡ spell_type type ++ c → ⊥
   no_whole type c t is =
@@ -225,7 +225,7 @@ module _ (room : ℕ) (units left : List ℕ) (s : Stops (SpellsType 255 room) u
     stuck_rest (unit ∷ rest) at = λ b. stuck_rest_at unit rest b.rest at b.whole
 
     -- where a parameter's type stops, what may follow in the method does
-    pub type_stops : Stops (SpellsRest room) units left
+    pub type_stops : StopsIn (SpellsRest room) units left
     type_stops = record { front = s.front; split = s.split; begins = begins_rest; stuck = stuck_rest left refl; unfinished = unfinished_rest }
 
 pub type_stopped : (stop : Stop) (room unit : ℕ) (units left : List ℕ) → unit ≢ 41 → (rest : List ℕ) × (units ≡ unit ∷ rest) → StopsAt stop (SpellsType 255 room) units left → StopsAt stop (SpellsRest room) units left
@@ -258,9 +258,9 @@ ParametersRead-push parameters room old left after type h t is = record {
   out = λ u s. type_out room type t u (h.out (spell_type type ++ u) (subst (SpellsRest 255) (flat_map-push parameters type u) s));
 }
 
-pub ParametersRead-stops : (parameters : List JType) (room : ℕ) (old units left : List ℕ) → ParametersRead parameters room old units → Stops (SpellsRest room) units left → Stops (SpellsRest 255) old left
+pub ParametersRead-stops : (parameters : List JType) (room : ℕ) (old units left : List ℕ) → ParametersRead parameters room old units → StopsIn (SpellsRest room) units left → StopsIn (SpellsRest 255) old left
 ParametersRead-stops parameters room old units left h s =
-    subst (λ u. Stops (SpellsRest 255) u left) h.split (stops_after (SpellsRest 255) (SpellsRest room) (flat_map spell_type parameters) units left h.into h.out s)
+    subst (λ u. StopsIn (SpellsRest 255) u left) h.split (stops_after (SpellsRest 255) (SpellsRest room) (flat_map spell_type parameters) units left h.into h.out s)
 
 pub ParametersRead-stopped : (stop : Stop) (parameters : List JType) (room : ℕ) (old units left : List ℕ) → ParametersRead parameters room old units → StopsAt stop (SpellsRest room) units left → StopsAt stop (SpellsRest 255) old left
 ParametersRead-stopped Here parameters room old units left h s = ParametersRead-stops parameters room old units left h s
@@ -273,7 +273,7 @@ ParametersRead-are parameters room old left h = record { types = h.types; words_
 pub result_stopped : (stop : Stop) (parameters : List JType) (room : ℕ) (old closed units left : List ℕ) → ParametersRead parameters room old closed → closed ≡ 41 ∷ units
     → StopsAt stop SpellsResult units left → StopsAt stop (SpellsRest 255) old left
 result_stopped Here parameters room old closed units left h is s =
-    ParametersRead-stops parameters room old closed left h (subst (λ u. Stops (SpellsRest room) u left) (sym is) (result_stops room units left s))
+    ParametersRead-stops parameters room old closed left h (subst (λ u. StopsIn (SpellsRest room) u left) (sym is) (result_stops room units left s))
 result_stopped (Memory error) parameters room old closed units left h is s = tt
 
 -- a result is a type where no `V` stands

@@ -1,10 +1,10 @@
 -- How a reader's stop in what is left is its stop in the whole.
 use Rattle.std.proofs.Common.{◌≡◌, ℕ, List, [], ◌∷◌, ◌++◌, refl, sym, ap, subst, ◌∙◌}
 use Rattle.std.proofs.lemmas.List.{append_assoc}
-use Rattle.dj_names.specs.Reading.{Begins, IsStuck, Stops}
+use Rattle.dj_names.specs.Reading.{Begins, IsStuck, StopsIn}
 
 -- nothing was read, and the next unit begins nothing
-pub stops_here : (L : List ℕ → Type 0) (units : List ℕ) → Begins L [] → ¬ L [] → IsStuck L [] units → Stops L units units
+pub stops_here : (L : List ℕ → Type 0) (units : List ℕ) → Begins L [] → ¬ L [] → IsStuck L [] units → StopsIn L units units
 stops_here L units begins unfinished stuck = record { front = []; split = refl; begins = begins; stuck = stuck; unfinished = unfinished }
 
 stuck_after : (L M : List ℕ → Type 0) (front read left : List ℕ) → ((u : List ℕ) → L (front ++ u) → M u) → IsStuck M read left → IsStuck L (front ++ read) left
@@ -16,7 +16,7 @@ stuck_after L M front read (unit ∷ left) out h =
     })
 
 -- after a front that leaves the language M of L, a stop in M is one in L
-pub stops_after : (L M : List ℕ → Type 0) (front units left : List ℕ) → ((u : List ℕ) → M u → L (front ++ u)) → ((u : List ℕ) → L (front ++ u) → M u) → Stops M units left → Stops L (front ++ units) left
+pub stops_after : (L M : List ℕ → Type 0) (front units left : List ℕ) → ((u : List ℕ) → M u → L (front ++ u)) → ((u : List ℕ) → L (front ++ u) → M u) → StopsIn M units left → StopsIn L (front ++ units) left
 stops_after L M front units left into out s = record {
   front = front ++ s.front;
   split = append_assoc front s.front left ∙ ap (λ u. front ++ u) s.split;
@@ -37,7 +37,7 @@ unfinished_wider L A [] left units split empty narrow h = empty
 unfinished_wider L A (x ∷ front) left units split empty narrow h = λ is. h (narrow x (front ++ left) front (sym split) is)
 
 -- a stop in a language that is, after the first unit at hand, all of a wider one
-pub stops_wider : (L A : List ℕ → Type 0) (units left : List ℕ) → ((u : List ℕ) → A u → L u) → ¬ L [] → ((first : ℕ) (rest u : List ℕ) → units ≡ first ∷ rest → L (first ∷ u) → A (first ∷ u)) → Stops A units left → Stops L units left
+pub stops_wider : (L A : List ℕ → Type 0) (units left : List ℕ) → ((u : List ℕ) → A u → L u) → ¬ L [] → ((first : ℕ) (rest u : List ℕ) → units ≡ first ∷ rest → L (first ∷ u) → A (first ∷ u)) → StopsIn A units left → StopsIn L units left
 stops_wider L A units left widen empty narrow s = record {
   front = s.front;
   split = s.split;

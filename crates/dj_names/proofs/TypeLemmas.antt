@@ -3,7 +3,7 @@ use Rattle.std.proofs.Common.{◌≡◌, ◌≢◌, ℕ, suc, ◌<◌, ◌≤◌
 use Rattle.std.proofs.lemmas.List.{append-nil}
 use Rattle.dj_names.specs.Types.{JType, Boolean, Byte, Char, Short, Int, Long, Float, Double, Class, Array}
 use Rattle.dj_names.specs.Descriptors.{spell_type, dimensions, words, HasClassName}
-use Rattle.dj_names.specs.Reading.{Begins, Stops, StopsAt, SpellsType, SpellsClass, IsPrimitiveLetter, IsNoPrimitive}
+use Rattle.dj_names.specs.Reading.{Begins, StopsIn, StopsAt, SpellsType, SpellsClassName, IsPrimitiveLetter, IsNoPrimitive}
 use Rattle.dj_names.specs.declared.descriptors.Stop.{Stop}
 use Rattle.dj_names.specs.declared.descriptors.Stop.TheVariants.{Here, Memory}
 use Rattle.dj_names.proofs.Stopping.{stops_here, stops_after}
@@ -122,7 +122,7 @@ type_begins depth room some = record {
 pub type_is_some : (depth room : ℕ) → ¬ SpellsType depth room []
 type_is_some depth room s = spell_type-nonempty s.type s.spelled
 
-pub no_type_at_end : (depth room : ℕ) → 1 ≤ room → Stops (SpellsType depth room) [] []
+pub no_type_at_end : (depth room : ℕ) → 1 ≤ room → StopsIn (SpellsType depth room) [] []
 no_type_at_end depth room some = stops_here (SpellsType depth room) [] (type_begins depth room some) (type_is_some depth room) tt
 
 no_array : (room : ℕ) (u : List ℕ) → ¬ SpellsType 0 room (91 ∷ u)
@@ -130,13 +130,13 @@ no_array room u s =
     let a = array_of s.type u s.spelled in
     absurd (omega (arith, s.type_is.dimensions_fit, ap dimensions a.is))
 
-pub too_deep : (room : ℕ) (units : List ℕ) → 1 ≤ room → Stops (SpellsType 0 room) (91 ∷ units) (91 ∷ units)
+pub too_deep : (room : ℕ) (units : List ℕ) → 1 ≤ room → StopsIn (SpellsType 0 room) (91 ∷ units) (91 ∷ units)
 too_deep room units some = stops_here (SpellsType 0 room) (91 ∷ units) (type_begins 0 room some) (type_is_some 0 room) (λ b. no_array room b.rest b.whole)
 
 no_primitive : (depth room unit : ℕ) (u : List ℕ) → unit ≢ 91 → unit ≢ 76 → IsNoPrimitive Here room unit → ¬ SpellsType depth room (unit ∷ u)
 no_primitive depth room unit u a c none s = none s.type (primitive_alone s.type unit u a c s.spelled) s.type_is.words_fit
 
-pub no_type_here : (depth room unit : ℕ) (units : List ℕ) → 1 ≤ room → unit ≢ 91 → unit ≢ 76 → IsNoPrimitive Here room unit → Stops (SpellsType depth room) (unit ∷ units) (unit ∷ units)
+pub no_type_here : (depth room unit : ℕ) (units : List ℕ) → 1 ≤ room → unit ≢ 91 → unit ≢ 76 → IsNoPrimitive Here room unit → StopsIn (SpellsType depth room) (unit ∷ units) (unit ∷ units)
 no_type_here depth room unit units some a c none =
     stops_here (SpellsType depth room) (unit ∷ units) (type_begins depth room some) (type_is_some depth room) (λ b. no_primitive depth room unit b.rest a c none b.whole)
 
@@ -173,47 +173,47 @@ array_out depth room u s =
     }
 
 -- where the element's type stops, the array's does
-pub array_stops : (depth room : ℕ) (units left : List ℕ) → 1 ≤ room → Stops (SpellsType depth 2) units left → Stops (SpellsType (suc depth) room) (91 ∷ units) left
+pub array_stops : (depth room : ℕ) (units left : List ℕ) → 1 ≤ room → StopsIn (SpellsType depth 2) units left → StopsIn (SpellsType (suc depth) room) (91 ∷ units) left
 array_stops depth room units left some s =
     stops_after (SpellsType (suc depth) room) (SpellsType depth 2) (91 ∷ []) units left (array_into depth room some) (array_out depth room) s
 
-class_into : (depth room : ℕ) → 1 ≤ room → (u : List ℕ) → SpellsClass u → SpellsType depth room (76 ∷ u)
+class_into : (depth room : ℕ) → 1 ≤ room → (u : List ℕ) → SpellsClassName u → SpellsType depth room (76 ∷ u)
 class_into depth room some u s = record {
   type = Class s.name;
   type_is = record { class_name = s.name_is; dimensions_fit = omega arith; words_fit = some };
   spelled = ap (λ units. 76 ∷ units) s.spelled;
 }
 
-class_out : (depth room : ℕ) (u : List ℕ) → SpellsType depth room (76 ∷ u) → SpellsClass u
+class_out : (depth room : ℕ) (u : List ℕ) → SpellsType depth room (76 ∷ u) → SpellsClassName u
 class_out depth room u s =
     let c = class_of s.type u s.spelled in
     record { name = c.name; name_is = subst HasClassName c.is s.type_is.class_name; spelled = c.spelled }
 
 -- where the class's name stops, the type does
-pub class_stops : (depth room : ℕ) (units left : List ℕ) → 1 ≤ room → Stops SpellsClass units left → Stops (SpellsType depth room) (76 ∷ units) left
+pub class_stops : (depth room : ℕ) (units left : List ℕ) → 1 ≤ room → StopsIn SpellsClassName units left → StopsIn (SpellsType depth room) (76 ∷ units) left
 class_stops depth room units left some s =
-    stops_after (SpellsType depth room) SpellsClass (76 ∷ []) units left (class_into depth room some) (class_out depth room) s
+    stops_after (SpellsType depth room) SpellsClassName (76 ∷ []) units left (class_into depth room some) (class_out depth room) s
 
 pub array_stopped : (stop : Stop) (depth lower room : ℕ) (old units left : List ℕ) → 1 ≤ room → depth ≡ suc lower → old ≡ 91 ∷ units
     → StopsAt stop (SpellsType lower 2) units left → StopsAt stop (SpellsType depth room) old left
 array_stopped Here depth lower room old units left some deep is s =
-    subst (λ d. Stops (SpellsType d room) old left) (sym deep) (subst (λ u. Stops (SpellsType (suc lower) room) u left) (sym is) (array_stops lower room units left some s))
+    subst (λ d. StopsIn (SpellsType d room) old left) (sym deep) (subst (λ u. StopsIn (SpellsType (suc lower) room) u left) (sym is) (array_stops lower room units left some s))
 array_stopped (Memory error) depth lower room old units left some deep is s = tt
 
 pub class_stopped : (stop : Stop) (depth room : ℕ) (old units left : List ℕ) → 1 ≤ room → old ≡ 76 ∷ units
-    → StopsAt stop SpellsClass units left → StopsAt stop (SpellsType depth room) old left
-class_stopped Here depth room old units left some is s = subst (λ u. Stops (SpellsType depth room) u left) (sym is) (class_stops depth room units left some s)
+    → StopsAt stop SpellsClassName units left → StopsAt stop (SpellsType depth room) old left
+class_stopped Here depth room old units left some is s = subst (λ u. StopsIn (SpellsType depth room) u left) (sym is) (class_stops depth room units left some s)
 class_stopped (Memory error) depth room old units left some is s = tt
 
 pub primitive_stopped : (stop : Stop) (depth room unit : ℕ) (old left : List ℕ) → 1 ≤ room → unit ≢ 91 → unit ≢ 76 → (rest : List ℕ) × (old ≡ unit ∷ rest)
     → IsNoPrimitive stop room unit × (left ≡ old) → StopsAt stop (SpellsType depth room) old left
 primitive_stopped Here depth room unit old left some a c (rest, is) (none, same) =
-    subst (λ l. Stops (SpellsType depth room) old l) (sym same) (subst (λ u. Stops (SpellsType depth room) u u) (sym is) (no_type_here depth room unit rest some a c none))
+    subst (λ l. StopsIn (SpellsType depth room) old l) (sym same) (subst (λ u. StopsIn (SpellsType depth room) u u) (sym is) (no_type_here depth room unit rest some a c none))
 primitive_stopped (Memory error) depth room unit old left some a c is (none, same) = tt
 
-pub deep_stopped : (depth room : ℕ) (old : List ℕ) → 1 ≤ room → depth ≡ 0 → (rest : List ℕ) × (old ≡ 91 ∷ rest) → Stops (SpellsType depth room) old old
+pub deep_stopped : (depth room : ℕ) (old : List ℕ) → 1 ≤ room → depth ≡ 0 → (rest : List ℕ) × (old ≡ 91 ∷ rest) → StopsIn (SpellsType depth room) old old
 deep_stopped depth room old some none (rest, is) =
-    subst (λ d. Stops (SpellsType d room) old old) (sym none) (subst (λ u. Stops (SpellsType 0 room) u u) (sym is) (too_deep room rest some))
+    subst (λ d. StopsIn (SpellsType d room) old old) (sym none) (subst (λ u. StopsIn (SpellsType 0 room) u u) (sym is) (too_deep room rest some))
 
-pub end_stopped : (depth room : ℕ) (old : List ℕ) → 1 ≤ room → old ≡ [] → Stops (SpellsType depth room) old old
-end_stopped depth room old some is = subst (λ u. Stops (SpellsType depth room) u u) (sym is) (no_type_at_end depth room some)
+pub end_stopped : (depth room : ℕ) (old : List ℕ) → 1 ≤ room → old ≡ [] → StopsIn (SpellsType depth room) old old
+end_stopped depth room old some is = subst (λ u. StopsIn (SpellsType depth room) u u) (sym is) (no_type_at_end depth room some)

@@ -96,6 +96,10 @@ one_list (unit ∷ units) (other ∷ others) same =
     let later = one_list units others first.1 in
     (let f : unit ∷ units ≡ other ∷ others = cc (first.0, later) in f)
 
+-- what spells the bytes is the one list that does
+pub only_units : (made bytes : List ℕ) → spell_units made ≡ bytes → (units : List ℕ) → All IsUnit units → spell_units units ≡ bytes → made ≡ units
+only_units made bytes spelled units are same = one_list made units (spelled ∙ sym same)
+
 -- what goes on with no unit isn't spelled
 no_units : (before units left : List ℕ) → left ≢ [] → ((unit : ℕ) (rest : List ℕ) → IsUnit unit → encode unit ++ rest ≢ left) → All IsUnit units → spell_units units ≢ spell_units before ++ left
 no_units [] [] left some wrong are same = some (sym same)

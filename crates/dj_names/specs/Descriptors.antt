@@ -77,7 +77,7 @@ IsDescriptor (Method parameters result) =
     All IsType parameters × (sum_by words parameters ≤ 255) × IfSome result IsType
 
 -- the units are a descriptor, this one
-pub record Spells (units : List ℕ) (descriptor : Descriptor) : Type 0 where
+pub record SpellsDescriptor (units : List ℕ) (descriptor : Descriptor) : Type 0 where
   pub descriptor_is : IsDescriptor descriptor
   pub spelled : spell_descriptor descriptor ≡ units
 
@@ -85,11 +85,11 @@ pub record Spells (units : List ℕ) (descriptor : Descriptor) : Type 0 where
 pub record BeginsDescriptor (units : List ℕ) : Type 0 where
   pub rest : List ℕ
   pub descriptor : Descriptor
-  pub spells : Spells (units ++ rest) descriptor
+  pub spells : SpellsDescriptor (units ++ rest) descriptor
 
 -- the units are no descriptor, and the longest prefix that begins one has this length
 pub record IsNoDescriptor (units : List ℕ) (at : ℕ) : Type 0 where
-  pub unspelled : (descriptor : Descriptor) → ¬ Spells units descriptor
+  pub unspelled : (descriptor : Descriptor) → ¬ SpellsDescriptor units descriptor
   pub within : at ≤ length units
   pub begins : BeginsDescriptor (take at units)
   pub longest : (longer : ℕ) → at < longer → longer ≤ length units → ¬ BeginsDescriptor (take longer units)

@@ -5,8 +5,11 @@ pub mod Descriptors
 pub mod Utf8
 pub mod Faults
 pub mod Identifiers
+pub mod Sayable
 pub mod Shown
 pub mod Headers
 pub mod Assignable
 -- What the functions inside the crate promise each other.
 pub mod Reading
+-- How shared values are kept.
+pub mod formers

@@ -2,7 +2,7 @@
 use Rattle.std.specs.Prelude.{◌≡◌, ◌≢◌, ℕ, ◌≤◌, ◌⊎◌, Bool, true, List, [], ◌∷◌, ◌++◌, Option, All, Contains, IfSome, flat_map, sum_by, codes}
 use Rattle.dj_names.specs.Types.{JType, Descriptor}
 use Rattle.dj_names.specs.ClassNames.{IsClassName}
-use Rattle.dj_names.specs.Descriptors.{spell_type, spell_result, dimensions, words, HasClassName, IsType, Spells}
+use Rattle.dj_names.specs.Descriptors.{spell_type, spell_result, dimensions, words, HasClassName, IsType, SpellsDescriptor}
 use Rattle.dj_names.specs.declared.descriptors.Stop.{Stop}
 use Rattle.dj_names.specs.declared.descriptors.Stop.TheVariants.{Here, Memory}
 
@@ -17,7 +17,7 @@ IsStuck Language front [] = Unit {0}
 IsStuck Language front (unit ∷ left) = ¬ Begins Language (front ++ unit ∷ [])
 
 -- what stands before `left` begins a list of the language, isn't one, and nothing longer begins one
-pub record Stops (Language : List ℕ → Type 0) (units left : List ℕ) : Type 0 where
+pub record StopsIn (Language : List ℕ → Type 0) (units left : List ℕ) : Type 0 where
   pub front : List ℕ
   pub split : front ++ left ≡ units
   pub begins : Begins Language front
@@ -26,7 +26,7 @@ pub record Stops (Language : List ℕ → Type 0) (units left : List ℕ) : Type
 
 -- where a reader stops that doesn't want for memory
 abbrev pub StopsAt : Stop → (List ℕ → Type 0) → List ℕ → List ℕ → Type 0
-StopsAt Here Language units left = Stops Language units left
+StopsAt Here Language units left = StopsIn Language units left
 StopsAt (Memory error) Language units left = Unit {0}
 
 -- a type with at most so many dimensions, that takes at most so many words
@@ -51,7 +51,7 @@ pub record SpellsType (depth room : ℕ) (units : List ℕ) : Type 0 where
   pub spelled : spell_type type ≡ units
 
 -- the units are what follows the `L` of a class
-pub record SpellsClass (units : List ℕ) : Type 0 where
+pub record SpellsClassName (units : List ℕ) : Type 0 where
   pub name : List ℕ
   pub name_is : IsClassName name
   pub spelled : name ++ codes ";" ≡ units
@@ -82,10 +82,10 @@ pub record SpellsRest (room : ℕ) (units : List ℕ) : Type 0 where
 -- the units are a descriptor
 pub record SpellsSome (units : List ℕ) : Type 0 where
   pub descriptor : Descriptor
-  pub spells : Spells units descriptor
+  pub spells : SpellsDescriptor units descriptor
 
 -- the units are no descriptor, and what stands before `left` is all of them that begins one
-pub record Halts (units left : List ℕ) : Type 0 where
+pub record HaltsUnspelled (units left : List ℕ) : Type 0 where
   pub front : List ℕ
   pub split : front ++ left ≡ units
   pub begins : Begins SpellsSome front
@@ -94,5 +94,5 @@ pub record Halts (units left : List ℕ) : Type 0 where
 
 -- where the reader of a whole descriptor stops that doesn't want for memory
 abbrev pub HaltsAt : Stop → List ℕ → List ℕ → Type 0
-HaltsAt Here units left = Halts units left
+HaltsAt Here units left = HaltsUnspelled units left
 HaltsAt (Memory error) units left = Unit {0}

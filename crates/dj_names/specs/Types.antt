@@ -1,5 +1,5 @@
 -- The types of the machine and its descriptors as plain data (JVMS 4.3.2, 4.3.3).
-use Rattle.std.specs.Prelude.{ℕ, List, map, Option, option_map}
+use Rattle.std.specs.Prelude.{ℕ, List, [], map, Option, Some, option_map}
 use Rattle.dj_names.specs.declared.types.JType as code
 use Rattle.dj_names.specs.declared.types.JType.TheOpen as layer
 use Rattle.dj_names.specs.declared.descriptor.Descriptor as code_descriptor
@@ -45,6 +45,16 @@ view_types = map view_type
 pub data Descriptor : Type 0 where
   Field : JType → Descriptor
   Method : List JType → Option JType → Descriptor
+
+-- the parameter types of a descriptor
+abbrev pub parameters_of : Descriptor → List JType
+parameters_of (Field kind) = []
+parameters_of (Method parameters result) = parameters
+
+-- the result of a descriptor, None for `void`
+abbrev pub result_of : Descriptor → Option JType
+result_of (Field kind) = Some kind
+result_of (Method parameters result) = result
 
 -- a descriptor of the code, seen as plain data
 abbrev pub view_descriptor : code_descriptor.Descriptor → Descriptor

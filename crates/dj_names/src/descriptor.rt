@@ -2,8 +2,8 @@
 
 ghost use Rattle.std.specs.Prelude.{◌≡◌, IfOk};
 
+use crate::shared_list::SharedList;
 use crate::types::JType;
-use sqlite_items::Items;
 use std::alloc::{AllocError, Global};
 
 /// A field's type, or a method's parameter types and its result, None for `void`.
@@ -11,44 +11,28 @@ use std::alloc::{AllocError, Global};
 pub enum Descriptor {
     Field(JType),
     Method {
-        parameters: Items<JType>,
+        parameters: SharedList<JType>,
         result: Option<JType>,
     },
 }
 
 impl Descriptor {
-    /// An equal descriptor.
+    /// An equal descriptor, which shares its parts with this one and takes no room of its own.
     pub fn copy(&self, alloc: Global) -> Result<Descriptor, AllocError>
         ensures equal { IfOk result (λ copy. copy ≡ self.now) }
     {
         match self {
             Descriptor::Field(kind) => Ok(Descriptor::Field(kind.copy(alloc)?)),
             Descriptor::Method { parameters, result } => {
-                let parameters = copy_types(alloc, parameters.as_slice())?;
-                let result = copy_result(alloc, result)?;
-                Ok(Descriptor::Method { parameters, result })
+                let result = match result {
+                    Some(kind) => Some(kind.copy(alloc)?),
+                    None => None,
+                };
+                Ok(Descriptor::Method {
+                    parameters: parameters.share()?,
+                    result,
+                })
             }
         }
-    }
-}
-
-/// Types equal to these, in order.
-pub fn copy_types(alloc: Global, types: &[JType]) -> Result<Items<JType>, AllocError>
-    ensures equal { IfOk result (λ copy. copy ≡ types.now) }
-{
-    let mut copy = Items::new(alloc);
-    for kind in types {
-        copy.push(kind.copy(alloc)?)?;
-    }
-    Ok(copy)
-}
-
-/// An equal result type, None for `void`.
-pub fn copy_result(alloc: Global, kind: &Option<JType>) -> Result<Option<JType>, AllocError>
-    ensures equal { IfOk result (λ copy. copy ≡ kind.now) }
-{
-    match kind {
-        Some(kind) => Ok(Some(kind.copy(alloc)?)),
-        None => Ok(None),
     }
 }

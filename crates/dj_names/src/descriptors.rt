@@ -1,20 +1,22 @@
 //! Reading descriptors (JVMS 4.3).
 
 ghost use Rattle.std.specs.Prelude.{◌≡◌, ◌≤◌, ℕ, List, [], ◌∷◌, ◌++◌, IfOk, IfErr, IfSome, IfNone, IsTrue, ◌↔◌, flat_map, codes};
+ghost use Rattle.dj_names.specs.Types as types;
 ghost use Rattle.dj_names.specs.Types.{view_type, view_types, view_descriptor};
-ghost use Rattle.dj_names.specs.Descriptors.{spell_type, spell_result, spell_descriptor, words, IsType, IsDescriptor, Spells};
+ghost use Rattle.dj_names.specs.Descriptors.{spell_type, spell_result, spell_descriptor, words, IsType, IsDescriptor, SpellsDescriptor};
 ghost use Rattle.dj_names.specs.ClassNames.{IsClassName};
-ghost use Rattle.dj_names.specs.Reading.{StopsAt, IsTypeWithin, SpellsType, SpellsClass, SpellsResult, AreParameters, SpellsRest, SpellsSome, IsPrimitiveLetter, IsNoPrimitive, MayFollow, HaltsAt};
-ghost use Rattle.dj_names.specs.Faults.{IsDescriptorFault};
+ghost use Rattle.dj_names.specs.Reading.{StopsAt, IsTypeWithin, SpellsType, SpellsClassName, SpellsResult, AreParameters, SpellsRest, SpellsSome, IsPrimitiveLetter, IsNoPrimitive, MayFollow, HaltsAt};
+ghost use Rattle.dj_names.specs.Faults.{IsDescriptorFault, GivesOnly};
 ghost use Rattle.std.specs.Option.{option_map};
 
 use crate::class_name::ClassName;
 use crate::descriptor::Descriptor;
 use crate::fault::{NameFault, place};
+use crate::shared::Shared;
+use crate::shared_list::SharedList;
 use crate::types::JType;
 use crate::units::Units;
 use crate::unread::Unread;
-use sqlite_items::{Boxed, Items};
 use std::alloc::{AllocError, AllocFailed, Global};
 
 /// The most dimensions of a type.
@@ -74,7 +76,7 @@ fn primitive_of(unit: u16) -> Option<JType>
 fn read_class(alloc: Global, unread: &mut Unread) -> Result<ClassName, Stop>
     ensures spelled { IfOk result (λ name. name ++ codes ";" ++ unread.new ≡ unread.old) }
     ensures name { IfOk result (λ name. IsClassName name) }
-    ensures stops { IfErr result (λ stop. StopsAt stop SpellsClass unread.old unread.new) }
+    ensures stops { IfErr result (λ stop. StopsAt stop SpellsClassName unread.old unread.new) }
 {
     let mut name = Vec::new(alloc);
     let mut started = false;
@@ -84,7 +86,7 @@ fn read_class(alloc: Global, unread: &mut Unread) -> Result<ClassName, Stop>
         }
         let _unit = unread.next();
         if unit == 0x3b {
-            return Ok(ClassName::new(Units::from_vec(name)));
+            return Ok(ClassName::new(Units::from_vec(name)?));
         }
         name.push(unit)?;
         started = unit != 0x2f;
@@ -118,7 +120,7 @@ fn read_type(alloc: Global, unread: &mut Unread, depth: u8, room: u8) -> Result<
             }
             let _bracket = unread.next();
             let element = read_type(alloc, unread, depth - 1, 2)?;
-            Ok(JType::Array(Boxed::new(alloc, element)?))
+            Ok(JType::Array(Shared::new(alloc, element)?))
         }
         Some(0x4c) => {
             let _letter = unread.next();
@@ -165,13 +167,16 @@ fn read_method(alloc: Global, unread: &mut Unread) -> Result<Descriptor, Stop>
     ensures descriptor { IfOk result (λ read. IsDescriptor (view_descriptor read)) }
     ensures stops { IfErr result (λ stop. StopsAt stop (SpellsRest 255) unread.old unread.new) }
 {
-    let mut parameters = Items::new(alloc);
+    let mut parameters = Vec::new(alloc);
     let mut room = MAX_WORDS;
     while let Some(unit) = unread.peek() {
         if unit == 0x29 {
             let _close = unread.next();
             let result = read_result(alloc, unread)?;
-            return Ok(Descriptor::Method { parameters, result });
+            return Ok(Descriptor::Method {
+                parameters: SharedList::from_vec(alloc, parameters)?,
+                result,
+            });
         }
         if room == 0 {
             return Err(Stop::Here);
@@ -198,7 +203,7 @@ fn read_front(alloc: Global, unread: &mut Unread) -> Result<Descriptor, Stop>
 
 /// A descriptor that nothing follows.
 fn read_whole(alloc: Global, unread: &mut Unread) -> Result<Descriptor, Stop>
-    ensures ok { IfOk result (λ read. Spells unread.old (view_descriptor read)) }
+    ensures ok { IfOk result (λ read. SpellsDescriptor unread.old (view_descriptor read)) }
     ensures halts { IfErr result (λ stop. HaltsAt stop unread.old unread.new) }
 {
     let descriptor = read_front(alloc, unread)?;
@@ -210,7 +215,8 @@ fn read_whole(alloc: Global, unread: &mut Unread) -> Result<Descriptor, Stop>
 
 /// Reads a descriptor. A fault is at the length of the longest prefix that begins some descriptor.
 pub fn read_descriptor(alloc: Global, units: &Units) -> Result<Descriptor, NameFault>
-    ensures ok { IfOk result (λ read. Spells units.now (view_descriptor read)) }
+    ensures ok { IfOk result (λ read. SpellsDescriptor units.now (view_descriptor read)) }
+    ensures value { (descriptor : types.Descriptor) → SpellsDescriptor units.now descriptor → GivesOnly view_descriptor result descriptor }
     ensures fault { IfErr result (λ fault. IsDescriptorFault units.now fault) }
 {
     let all = units.as_slice();

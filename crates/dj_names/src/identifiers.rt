@@ -94,7 +94,7 @@ fn is_letter(unit: u16) -> bool
     matches!(unit, 0x41..=0x5a | 0x61..=0x7a | 0x5f | 0x24)
 }
 
-fn is_digit(unit: u16) -> bool
+pub fn is_digit(unit: u16) -> bool
     ensures digit { IsTrue result ↔ IsDigit unit }
 {
     matches!(unit, 0x30..=0x39)

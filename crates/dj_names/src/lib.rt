@@ -1,6 +1,6 @@
 //! Names, types and descriptors of the Java virtual machine as plain data, their readers and writers, and how classes stand to each other.
-//! It stands on the kit's lists and boxes that contracts see as what they hold, which it hands on.
-//! The layers above use `read_descriptor`, `read_units`, `write_units`, `is_identifier`, each of which is exact, and `copy` of each type, which answers an equal value.
+//! It stands on the kit's lists and boxes that contracts see as what they hold, which it hands on beside shared ones of its own.
+//! The layers above use `read_descriptor`, `read_units`, `write_units`, `is_identifier`, `is_sayable`, each of which is exact, and `copy` of each type, which answers an equal value.
 #![tactic(auto)]
 
 mod assignable;
@@ -13,6 +13,9 @@ mod header;
 mod identifiers;
 mod members;
 mod relations;
+mod sayable;
+mod shared;
+mod shared_list;
 mod shown;
 mod static_type;
 #[cfg(test)]
@@ -24,13 +27,16 @@ mod utf8;
 
 pub use assignable::{Hierarchy, is_above_arrays, is_class_assignable};
 pub use class_name::{ClassName, copy_names};
-pub use descriptor::{Descriptor, copy_result, copy_types};
+pub use descriptor::Descriptor;
 pub use descriptors::read_descriptor;
 pub use fault::NameFault;
 pub use header::{Header, Headers};
-pub use identifiers::{is_identifier, spells_identifier};
+pub use identifiers::{is_among, is_identifier, is_word, spells_identifier};
 pub use members::{ClassMembers, Constant, Field, Member, Members, MethodHead};
 pub use relations::paths_can_be_cut;
+pub use sayable::{is_sayable, is_variable_like};
+pub use shared::Shared;
+pub use shared_list::SharedList;
 pub use shown::{hex_digit, is_shown_plain};
 pub use sqlite_items::{Boxed, Items};
 pub use static_type::StaticType;

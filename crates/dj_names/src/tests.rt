@@ -10,7 +10,7 @@ fn units(alloc: Global, text: &str) -> Result<Units, Fail> {
     for byte in text.as_bytes() {
         units.push(u16::from(*byte))?;
     }
-    Ok(Units::from_vec(units))
+    Ok(Units::from_vec(units)?)
 }
 
 fn assert_bad(rt: &impl Abort, alloc: Global, text: &str, place: u32) -> Result<(), Fail> {

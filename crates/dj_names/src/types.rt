@@ -5,7 +5,7 @@ ghost use Rattle.dj_names.specs.Types.{view_type};
 ghost use Rattle.dj_names.specs.Descriptors.{words};
 
 use crate::class_name::ClassName;
-use sqlite_items::Boxed;
+use crate::shared::Shared;
 use std::alloc::{AllocError, Global};
 
 /// A type of the machine: primitive, a class or interface, or an array of a type.
@@ -20,7 +20,7 @@ pub enum JType {
     Float,
     Double,
     Class(ClassName),
-    Array(Boxed<JType>),
+    Array(Shared<JType>),
 }
 
 impl JType {
@@ -41,7 +41,7 @@ impl JType {
         }
     }
 
-    /// An equal type.
+    /// An equal type, which shares its parts with this one and takes no room of its own.
     pub fn copy(&self, alloc: Global) -> Result<JType, AllocError>
         ensures equal { IfOk result (λ copy. copy ≡ self.now) }
     {
@@ -55,10 +55,7 @@ impl JType {
             JType::Float => Ok(JType::Float),
             JType::Double => Ok(JType::Double),
             JType::Class(name) => Ok(JType::Class(name.copy(alloc)?)),
-            JType::Array(element) => {
-                let element = element.get().copy(alloc)?;
-                Ok(JType::Array(Boxed::new(alloc, element)?))
-            }
+            JType::Array(element) => Ok(JType::Array(element.share()?)),
         }
     }
 }

@@ -1,8 +1,8 @@
 //! Reading and writing units in modified UTF-8 (JVMS 4.4.7).
 
-ghost use Rattle.std.specs.Prelude.{◌≡◌, ◌≢◌, ◌≤◌, ℕ, List, [], ◌∷◌, ◌++◌, length, take, IfOk, OnOk, IfErr, IfSome, IfNone};
+ghost use Rattle.std.specs.Prelude.{◌≡◌, ◌≢◌, ◌≤◌, ℕ, List, [], ◌∷◌, ◌++◌, length, take, All, IfOk, OnOk, IfErr, IfSome, IfNone};
 ghost use Rattle.dj_names.specs.Utf8.{encode, spell_units, IsUnit};
-ghost use Rattle.dj_names.specs.Faults.{IsUnitsFault};
+ghost use Rattle.dj_names.specs.Faults.{IsUnitsFault, GivesOnly};
 
 use crate::fault::{NameFault, place};
 use crate::units::Units;
@@ -11,6 +11,8 @@ use std::alloc::{AllocError, Global};
 /// Reads units in modified UTF-8. A fault is where the first wrong sequence begins.
 pub fn read_units(alloc: Global, bytes: &[u8]) -> Result<Units, NameFault>
     ensures ok { IfOk result (λ units. spell_units units ≡ bytes.now) }
+    ensures units { IfOk result (λ units. All IsUnit units) }
+    ensures value { (units : List ℕ) → All IsUnit units → spell_units units ≡ bytes.now → GivesOnly (λ read. read) result units }
     ensures fault { IfErr result (λ fault. IsUnitsFault bytes.now fault) }
 {
     let mut units = Vec::new(alloc);
@@ -22,7 +24,7 @@ pub fn read_units(alloc: Global, bytes: &[u8]) -> Result<Units, NameFault>
         units.push(unit)?;
         at += size;
     }
-    Ok(Units::from_vec(units))
+    Ok(Units::from_vec(units)?)
 }
 
 /// Writes the one spelling of units in modified UTF-8.

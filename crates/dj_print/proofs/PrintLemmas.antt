@@ -6,10 +6,10 @@ use Rattle.std.proofs.lemmas.List.{drop-map, drop_more, get_or-map, length-map, 
 use Rattle.std.proofs.lemmas.List.Elements.{All-drop}
 use Rattle.std.proofs.lemmas.Grind.{flat_map-append}
 use Rattle.dj_names.specs.ClassNames.{segments, in_front}
+use Rattle.dj_names.proofs.SegmentLemmas.{some_segment}
 use Rattle.dj_syntax.specs.Items.{Line, Space, item_text, render, separated}
 use Rattle.dj_syntax.specs.Trees.{Stm, Stms, Block, Return, Empty, And}
 use Rattle.dj_syntax.specs.UnitText.{Spellings, dotted, sign, word, exp_items, helper_items, modifiers, modifiers_items, modifier_items, stm_items, stms_items}
-use Rattle.dj_syntax.proofs.MethodNames.{some_segment}
 
 -- ---- names
 

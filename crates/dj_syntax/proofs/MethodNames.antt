@@ -1,11 +1,11 @@
 -- Names of methods and the parts of qualified names: what follows from their definitions.
 use Rattle.std.proofs.Common.{◌≡◌, ◌≢◌, ℕ, zero, suc, ◌<◌, ◌==◌, true, false, Bool, cond, List, [], ◌∷◌, ◌++◌, length, replicate, Some, All, refl, ap, ◌∙◌, arith, ne_eqb}
 use Rattle.std.specs.List.{AllByRecursion}
-use Rattle.std.proofs.lemmas.List.Splits.{slice_split_none, length-slice_split}
+use Rattle.std.proofs.lemmas.List.Splits.{slice_split_none}
 use Rattle.dj_names.specs.Types.{Int, Method}
 use Rattle.dj_names.specs.ClassNames.{in_front, segments}
 use Rattle.dj_names.specs.Identifiers.{IsIdentifier}
-use Rattle.dj_names.proofs.SegmentLemmas.{segments-is}
+use Rattle.dj_names.proofs.SegmentLemmas.{segments-is, some_segment}
 use Rattle.dj_syntax.specs.UnitText.{is_constructor, is_initialiser}
 use Rattle.dj_syntax.specs.WellFormed.{IsNamed, IsMethodDescriptor}
 
@@ -33,10 +33,6 @@ IsMethodDescriptor-ints n = (ints_are_named n, tt)
 pub segments-plain : (name : List ℕ) → All (λ unit. unit ≢ 47) name → segments name ≡ name ∷ []
 segments-plain name plain =
     segments-is name ∙ slice_split_none (λ unit. unit == 47) name (λ k d l. ne_eqb _ 47 (plain k d l))
-
--- a name has a part
-pub some_segment : (name : List ℕ) → 0 < length (segments name)
-some_segment name = omega (arith, ap length (segments-is name), length-slice_split (λ unit. unit == 47) name)
 
 in_front-append : (unit : ℕ) (parts : List (List ℕ)) (last : List ℕ) → 0 < length parts → in_front unit (parts ++ last ∷ []) ≡ in_front unit parts ++ last ∷ []
 in_front-append unit [] last some = absurd (omega arith)

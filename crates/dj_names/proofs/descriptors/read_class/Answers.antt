@@ -15,7 +15,7 @@ returns-then-not-may_follow-clause-stops c =
 
 pub returns-then-unit-eq59-clause-name : goal.returns-then-unit-eq59-clause-name
 returns-then-unit-eq59-clause-name c =
-    rw (c.new.ensures.units, c.from_vec.ensures.units)
+    rw (c.new.ensures.units, c.in_ok-from_vec.ensures.units)
     (NameRead-name c.loop-unit.name.items c.loop-unit.started c.in-Some.unit c.loop-unit.invariant.read (c.if-not-may_follow.ensures.follows.0 refl) c.if-unit-eq59.true)
 
 pub returns-clause-stops : goal.returns-clause-stops

@@ -1,11 +1,18 @@
 use Rattle.std.proofs.Common.{◌-◌, length, refl}
-use Rattle.dj_names.proofs.DescriptorLemmas.{halted}
+use Rattle.dj_names.specs.Types.{view_descriptor}
+use Rattle.dj_names.proofs.DescriptorLemmas.{only_descriptor, halted}
 use Rattle.dj_names.proofs.descriptors.read_descriptor.Goals as goal
 
-pub returns-in-Err-Here-clause-fault : goal.returns-in-Err-Here-clause-fault
-returns-in-Err-Here-clause-fault c =
-    let left = c.read_whole.new.unread in (
-      length c.args.units.now - length left,
-      rw (c.place.ensures.place, c.len.ensures.left, c.as_slice-all.ensures.units) refl,
-      halted c.in-Err-Here.field-0 c.args.units.now c.as_slice-all.result.now c.new-unread.result left c.in-Err-Here.field-0-is c.new-unread.ensures.units c.as_slice-all.ensures.units c.in-Err-Here.ensures.halts,
-    )
+pub returns-in-Ok-clause-value : goal.returns-in-Ok-clause-value
+returns-in-Ok-clause-value c =
+    only_descriptor c.args.units.now c.as_slice-all.result.now c.new-unread.result (view_descriptor c.in-Ok.descriptor) c.new-unread.ensures.units c.as_slice-all.ensures.units c.in-Ok.ensures.ok
+
+pub returns-in-Err-Here : goal.returns-in-Err-Here
+returns-in-Err-Here c =
+    let left = c.read_whole.new.unread in
+    let none = halted c.in-Err-Here.field-0 c.args.units.now c.as_slice-all.result.now c.new-unread.result left c.in-Err-Here.field-0-is c.new-unread.ensures.units c.as_slice-all.ensures.units c.in-Err-Here.ensures.halts in
+    record {
+      ok = tt;
+      value = none.unspelled;
+      fault = (length c.args.units.now - length left, rw (c.place.ensures.place, c.len.ensures.left, c.as_slice-all.ensures.units) refl, none);
+    }
