@@ -10,7 +10,7 @@ use Rattle.dj_class.specs.ResolvedClass.{ClassOf, MethodOf}
 use Rattle.dj_syntax.specs.Trees.{Exp, Body, CompilationUnit}
 use Rattle.dj_syntax.specs.UnitText.{is_initialiser, is_interface}
 use Rattle.dj_syntax.specs.WellFormed.{IsWellFormed, IsWellFormedMethod, IsWellFormedExp, IsQualified, HasMethodName, class_name, held_class, held_method}
-use Rattle.dj_syntax.proofs.MethodNames.{identifier_is_no_method_keyword, IsMethodDescriptor-ints, segments-is, segments-plain, segments-append}
+use Rattle.dj_syntax.proofs.MethodNames.{identifier_is_no_method_keyword, IsMethodDescriptor-ints, segments-plain, segments-append}
 use Rattle.dj_print.specs.Printable.{IsAsciiName}
 use Rattle.dj_print.proofs.WellFormedIsAscii.{ascii_qualified}
 use Rattle.dj_cli.specs.ClassText.{IsClassText, method_text, printed_methods}

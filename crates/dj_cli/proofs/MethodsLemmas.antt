@@ -1,5 +1,5 @@
 -- What is found of one method more.
-use Rattle.std.proofs.Common.{◌≡◌, ◌≢◌, ℕ, ◌<◌, List, [], ◌∷◌, ◌++◌, length, get_or, map, Some, refl, sym, ap, ◌∙◌, subst, append_assoc, append-nil, All, ◌⊎◌, false}
+use Rattle.std.proofs.Common.{◌≡◌, ℕ, ◌<◌, List, [], ◌∷◌, ◌++◌, length, get_or, map, Some, refl, sym, ap, ◌∙◌, subst, append_assoc, append-nil, All, ◌⊎◌, false}
 use Rattle.std.specs.List.{AllByRecursion}
 use Rattle.std.proofs.lemmas.List.{get_or-map, length-map}
 use Rattle.dj_class.specs.ResolvedClass.{ClassOf, MethodOf}
@@ -7,11 +7,10 @@ use Rattle.dj_syntax.specs.Trees.{Exp, Body, MethodText}
 use Rattle.dj_syntax.specs.WellFormed.{IsWellFormedExp, IsWellFormedMethod}
 use Rattle.dj_straight.specs.StraightMethod.{IsStraightMethod, IsNotYet, IsBodyOf}
 use Rattle.dj_straight.proofs.StraightShows.{straight_methods_show}
-use Rattle.dj_cli.specs.declared.methods.MethodLine.{MethodLine}
 use Rattle.dj_cli.specs.ClassText.{method_text, printed_methods}
 use Rattle.dj_cli.specs.Report.{not_yet_tail, shown_method}
 use Rattle.dj_cli.specs.Output.{Verdict, Prints, NotYet, PrintsMethod, IsVerdict, AreVerdicts, bodies_of, method_line, method_lines}
-use Rattle.dj_cli.specs.Methods.{AreJudged, IsTextOf, lines_bytes}
+use Rattle.dj_cli.specs.Methods.{AreJudged, IsTextOf}
 use Rattle.dj_cli.proofs.ClassTextLemmas.{method_well_formed}
 
 AllByRecursion-push : {A : Type 0} (P : A → Type 0) (front : List A) (last : A) → AllByRecursion P front → P last → AllByRecursion P (front ++ last ∷ [])
@@ -95,27 +94,6 @@ module _ (class : ClassOf) where
         lines_are = ap (λ these. these ++ method_line class method verdict) before.lines_are ∙ sym (lines-more [] methods before.verdicts method verdict before.judged);
         well_formed = before.well_formed;
       }
-
--- ---- lines
-
--- a list with a front that is none
-front-none : (front back : List ℕ) → front ++ back ≡ [] → front ≡ []
-front-none [] back same = refl
-front-none (byte ∷ front) back same = absurd cc
-
--- a list with a back that is some
-back-some : (front : List ℕ) (byte : ℕ) (back : List ℕ) → front ++ byte ∷ back ≡ [] → ⊥
-back-some [] byte back same = cc
-back-some (first ∷ front) byte back same = cc
-
--- no lines have no bytes, and some have some
-pub lines-none : (class : List ℕ) (lines : List MethodLine) → lines ≡ [] → lines_bytes class lines ≡ []
-lines-none class lines none = ap (lines_bytes class) none
-
-pub lines-some : (class : List ℕ) (lines : List MethodLine) → lines ≢ [] → lines_bytes class lines ≢ []
-lines-some class [] some = λ none. some refl
-lines-some class (line ∷ lines) some = λ none.
-    back-some _ 46 [] (front-none _ _ (front-none _ _ (front-none _ _ (front-none _ _ none))))
 
 -- a fact of each item, seen by a function, at one place
 pub all_at : {X Y : Type 0} (f : X → Y) (P : Y → Type 0) (items : List X) (i : ℕ) (item : X) → All P (map f items) → i < length items → item ≡ get_or items i item → P (f item)

@@ -4,24 +4,26 @@ use Rattle.std.specs.Prelude.{MatchBool, slice_get}
 use Rattle.std.specs.Io.KnownBytes.{append_known}
 use Rattle.std.proofs.lemmas.List.{flat_map_more, length_push, nil_from_length}
 use Rattle.std.proofs.lemmas.Bool.Decides.{eqb_tells}
-use Rattle.dj_outer.specs.Sink.{TakesPrefix}
 use Rattle.dj_outer.proofs.PutsLemmas.{known-then, known-nothing}
+use Rattle.dj_names.specs.Shown.{show_units}
+use Rattle.dj_cli.specs.declared.methods.MethodLine.{MethodLine}
 use Rattle.dj_cli.specs.declared.telling.TellStop.{TellStop}
 use Rattle.dj_cli.specs.declared.telling.TellStop.TheVariants.{Text, Report, Memory}
 use Rattle.dj_cli.specs.Output.{Piece, FileIs, IsFilePiece, IsNext, AreFirst, none, more, text_of, lines_of, Grew, ToldFirst, ToldAll, ToldSome, ToldFront, Cut, InText, InLines}
+use Rattle.dj_cli.specs.Methods.{line_bytes, lines_bytes}
 use Rattle.dj_cli.specs.Telling.{StoppedTelling, TellsPiece, CutsPiece, StopsPiece}
 
 -- ---- whether there is a line
 
 -- whether either has a line
-refused_either : (before one : Bool) (lines more : List ℕ) → MatchBool before (lines ≢ []) (lines ≡ []) → MatchBool one (more ≢ []) (more ≡ []) → MatchBool (before || one) (lines ++ more ≢ []) (lines ++ more ≡ [])
-refused_either false false lines more first second = ap (λ these. these ++ more) first ∙ second
-refused_either false true lines more first second = λ none. second (sym (ap (λ these. these ++ more) first) ∙ none)
-refused_either true one lines more first second = nonempty lines first
+refused_either : (before one : Bool) (lines others : List ℕ) → MatchBool before (lines ≢ []) (lines ≡ []) → MatchBool one (others ≢ []) (others ≡ []) → MatchBool (before || one) (lines ++ others ≢ []) (lines ++ others ≡ [])
+refused_either false false lines others first second = ap (λ these. these ++ others) first ∙ second
+refused_either false true lines others first second = λ nil. second (sym (ap (λ these. these ++ others) first) ∙ nil)
+refused_either true one lines others first second = nonempty lines first
   where
-    nonempty : (lines : List ℕ) → lines ≢ [] → lines ++ more ≢ []
-    nonempty [] not_empty = λ none. not_empty refl
-    nonempty (byte ∷ rest) not_empty = λ none. absurd cc
+    nonempty : (lines : List ℕ) → lines ≢ [] → lines ++ others ≢ []
+    nonempty [] not_empty = λ nil. not_empty refl
+    nonempty (byte ∷ rest) not_empty = λ nil. absurd cc
 
 -- no more than before
 or-false : (flag : Bool) → (flag || false) ≡ flag
@@ -125,12 +127,32 @@ module _ (names : List (List ℕ)) (found : List FileIs) where
       subst (λ flag. ToldAll flag text_old text_new report_old report_new names found) (or-false refused)
       (told_push (length names) refused text_old text_new text_new report_old report_new report_new told nothing false next (known-nothing text_new) (known-nothing report_new) refl)
 
--- ---- one piece
+-- ---- the lines of one piece
 
--- whether a list that is none or some is none
-pub refused_told : {A : Type 0} (lines : List A) (bytes : List ℕ) (empty : Bool) → empty ≡ (length lines == 0) → (lines ≡ [] → bytes ≡ []) → (lines ≢ [] → bytes ≢ []) → MatchBool (not empty) (bytes ≢ []) (bytes ≡ [])
-refused_told lines bytes empty is if_none if_some =
+-- a front of nothing is nothing
+front-none : (front back : List ℕ) → front ++ back ≡ [] → front ≡ []
+front-none [] back same = refl
+front-none (byte ∷ front) back same = absurd cc
+
+-- what ends in something is something
+pub back-some : (front : List ℕ) (byte : ℕ) (back : List ℕ) → front ++ byte ∷ back ≢ []
+back-some [] byte back = λ same. cc
+back-some (first ∷ front) byte back = λ same. cc
+
+-- one line more
+pub lines_bytes-push : (class : List ℕ) (lines : List MethodLine) (line : MethodLine) → lines_bytes class (lines ++ line ∷ []) ≡ lines_bytes class lines ++ line_bytes class line
+lines_bytes-push class lines line = sym (flat_map_more (line_bytes class) [] lines line)
+
+-- lines have bytes
+lines-some : (class : List ℕ) (lines : List MethodLine) → lines ≢ [] → lines_bytes class lines ≢ []
+lines-some class [] some = λ nil. some refl
+lines-some class (line ∷ lines) some = λ nil.
+    back-some (show_units class) 46 [] (front-none _ _ (front-none _ _ (front-none _ _ (front-none _ _ nil))))
+
+-- whether a piece has a line
+pub has-line : (class : List ℕ) (lines : List MethodLine) (empty : Bool) → empty ≡ (length lines == 0) → MatchBool (not empty) (lines_bytes class lines ≢ []) (lines_bytes class lines ≡ [])
+has-line class lines empty is =
     elim (eqb_tells (length lines) 0) [
-      | inl w ↦ subst (λ flag. MatchBool (not flag) (bytes ≢ []) (bytes ≡ [])) (sym (is ∙ w.0)) (if_none (nil_from_length lines w.1))
-      | inr w ↦ subst (λ flag. MatchBool (not flag) (bytes ≢ []) (bytes ≡ [])) (sym (is ∙ w.0)) (if_some (λ nil. w.1 (ap length nil)))
+      | inl w ↦ subst (λ flag. MatchBool (not flag) (lines_bytes class lines ≢ []) (lines_bytes class lines ≡ [])) (sym (is ∙ w.0)) (ap (lines_bytes class) (nil_from_length lines w.1))
+      | inr w ↦ subst (λ flag. MatchBool (not flag) (lines_bytes class lines ≢ []) (lines_bytes class lines ≡ [])) (sym (is ∙ w.0)) (lines-some class lines (λ nil. w.1 (ap length nil)))
     ]

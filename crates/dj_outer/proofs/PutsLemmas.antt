@@ -66,6 +66,12 @@ puts-stop {other = other} {old = old} {new = new} {before = before} {after = aft
     let stopped : Puts (Err other) old new before after (first ++ second) = record { ok = tt; prefix = prefix-stop old new first second one.prefix; failed = one.failed; never_falls = one.never_falls } in
     subst (λ result. Puts result old new before after (first ++ second)) (sym is) stopped
 
+-- and for what was to follow that
+pub puts-on : {result : Result (Unit {0}) Failed} {other : Failed} {old new : Option (List ℕ)} {before after : ℕ} {first : List ℕ} → result ≡ Err other → (second : List ℕ)
+    → Puts result old new before after first → Puts result old new before after (first ++ second)
+puts-on {old = old} {new = new} {before = before} {after = after} {first = first} is second one =
+    puts-stop is second (subst (λ result. Puts result old new before after first) is one)
+
 -- an equal piece
 pub puts-as : {result : Result (Unit {0}) Failed} {old new : Option (List ℕ)} {before after : ℕ} {first second : List ℕ} → first ≡ second → Puts result old new before after first → Puts result old new before after second
 puts-as {result = result} {old = old} {new = new} {before = before} {after = after} same one = subst (Puts result old new before after) same one

@@ -20,5 +20,5 @@ returns-in_ok-put_piece-in-Array g t c =
     let is : view_type c.args.kind.now ≡ Array (view_type c.in-Array.element) = ap view_type c.in-Array.is ∙ view-array c.in-Array.element in
     record {
       puts = puts-as (ap (λ kind. show_units (spell_type kind)) (sym is))
-      (puts-then c.in_ok-put_piece-in-Array.ensures.puts (rw c.get.ensures at c.put_by_brackets.ensures.puts));
+      (puts-then c.in_ok-put_piece-in-Array.ensures.puts (rw c.get.ensures.value at c.put_by_brackets.ensures.puts));
     }
