@@ -3,18 +3,18 @@ use Rattle.std.proofs.Common.{◌≡◌, ◌≢◌, ℕ, false, List, [], ◌∷
 use Rattle.std.specs.Prelude.{IfSome}
 use Rattle.std.specs.List.{AllByRecursion}
 use Rattle.std.proofs.lemmas.List.Elements.{recursion_from_All}
+use Rattle.dj_names.specs.ClassNames.{segments}
 use Rattle.dj_names.specs.Identifiers.{IsIdentifier}
-use Rattle.dj_class.specs.declared.class.raw.Entry.{Entry}
+use Rattle.dj_names.specs.Sayable.{IsSayable}
 use Rattle.dj_class.specs.ResolvedClass.{ClassOf, MethodOf}
-use Rattle.dj_class.specs.FirstForm.{IsSayable}
 use Rattle.dj_syntax.specs.Trees.{Exp, Body, CompilationUnit}
-use Rattle.dj_syntax.specs.UnitText.{segments, is_initialiser, is_interface}
+use Rattle.dj_syntax.specs.UnitText.{is_initialiser, is_interface}
 use Rattle.dj_syntax.specs.WellFormed.{IsWellFormed, IsWellFormedMethod, IsWellFormedExp, IsQualified, HasMethodName, class_name, held_class, held_method}
-use Rattle.dj_syntax.proofs.MethodNames.{identifier_is_no_method_keyword, IsMethodDescriptor-ints, segments-is, segments-plain, segments-append}
+use Rattle.dj_syntax.proofs.MethodNames.{identifier_is_no_method_keyword, IsMethodDescriptor-ints, segments-plain, segments-append}
 use Rattle.dj_print.specs.Printable.{IsAsciiName}
 use Rattle.dj_print.proofs.WellFormedIsAscii.{ascii_qualified}
 use Rattle.dj_cli.specs.ClassText.{IsClassText, method_text, printed_methods}
-use Rattle.dj_cli.specs.StraightMethod.{IsStraightMethod, IsBodyOf}
+use Rattle.dj_straight.specs.StraightMethod.{IsStraightMethod, IsBodyOf}
 
 -- a fact of each of some items and of others
 AllByRecursion-front : {A : Type 0} (P : A → Type 0) (front : List A) (last : A) → AllByRecursion P (front ++ last ∷ []) → AllByRecursion P front × P last
@@ -23,7 +23,7 @@ AllByRecursion-front P (first ∷ front) last all = let rest = AllByRecursion-fr
 
 -- the segments of a name that can be said are identifiers
 qualified : (name : List ℕ) → IsSayable name → IsQualified name
-qualified name sayable = rw segments-is (recursion_from_All IsIdentifier _ sayable.identifiers)
+qualified name sayable = recursion_from_All IsIdentifier (segments name) sayable.identifiers
 
 -- a class's name is of characters below 128
 pub ascii_name : (name : List ℕ) → IsSayable name → IsAsciiName name
@@ -56,14 +56,23 @@ has_name method body identifier =
     rw (plain.0, plain.1) identifier
 
 -- the text of a straight method is well formed
-pub method_well_formed : (pool : List Entry) (class : ClassOf) (before : List MethodOf) (method : MethodOf) (exp : Exp) (body : Body) → (method.flags ≡ 0x8) ⊎ (method.flags ≡ 0x9) → IsStraightMethod pool before method exp → IsWellFormedExp exp → IsBodyOf class method exp body
+pub method_well_formed : (class : ClassOf) (before : List MethodOf) (method : MethodOf) (exp : Exp) (body : Body) → (method.flags ≡ 0x8) ⊎ (method.flags ≡ 0x9) → IsStraightMethod class before method exp → IsWellFormedExp exp → IsBodyOf class method exp body
     → IsWellFormedMethod false class.this_class (method_text method body)
-method_well_formed pool class before method exp body flags straight fits of_method = record {
+method_well_formed class before method exp body flags straight fits of_method = record {
   name = has_name method body straight.candidate.name;
   descriptor = rw straight.candidate.descriptor (IsMethodDescriptor-ints straight.parameters);
   thrown = rw straight.candidate.thrown tt;
   flags = method_flags_held method body flags (identifier_is_no_method_keyword method.name straight.candidate.name).1;
-  body = record { head = of_method.head; statements = rw of_method.returns (fits, tt) };
+  body = record {
+    head = record {
+      class = of_method.class;
+      flags = of_method.flags;
+      name = of_method.name;
+      descriptor = of_method.descriptor;
+      thrown = of_method.thrown;
+    };
+    statements = rw of_method.returns (fits, tt);
+  };
 }
 
 -- the unit of a class of the first form is well formed where the texts of its methods are

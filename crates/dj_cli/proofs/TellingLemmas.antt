@@ -1,130 +1,158 @@
--- Pieces taken one after another, and answers to files one after another.
-use Rattle.std.proofs.Common.{◌≡◌, ◌≢◌, ℕ, ◌+◌, ◌<◌, Bool, true, false, not, ◌==◌, ◌||◌, List, [], ◌∷◌, ◌++◌, length, take, Option, Some, None, refl, sym, ap, ◌∙◌, subst, append_assoc, inl, inr}
-use Rattle.std.specs.Prelude.{MatchBool}
+-- Pieces told one after another, and where telling them stops.
+use Rattle.std.proofs.Common.{◌≡◌, ◌≢◌, ℕ, ◌+◌, Bool, true, false, not, ◌==◌, ◌||◌, List, [], ◌∷◌, ◌++◌, length, Option, Some, refl, sym, ap, ◌∙◌, subst, append-nil, inl, inr}
+use Rattle.std.specs.Prelude.{MatchBool, slice_get}
 use Rattle.std.specs.Io.KnownBytes.{append_known}
-use Rattle.std.proofs.Math.Seq.{take-append-add}
-use Rattle.std.proofs.lemmas.List.{append-nil, nil_from_length}
+use Rattle.std.proofs.lemmas.List.{flat_map_more, length_push, nil_from_length}
 use Rattle.std.proofs.lemmas.Bool.Decides.{eqb_tells}
-use Rattle.dj_outer.specs.Sink.{TakesPrefix}
+use Rattle.dj_outer.proofs.PutsLemmas.{known-then, known-nothing}
+use Rattle.dj_names.specs.Shown.{show_units}
+use Rattle.dj_cli.specs.declared.methods.MethodLine.{MethodLine}
 use Rattle.dj_cli.specs.declared.telling.TellStop.{TellStop}
 use Rattle.dj_cli.specs.declared.telling.TellStop.TheVariants.{Text, Report, Memory}
-use Rattle.dj_cli.specs.Telling.{StoppedTelling, StopsInText, StopsInLines}
-use Rattle.dj_cli.specs.Answer.{IsAnswer}
-use Rattle.dj_cli.specs.Program.{AnswersEach, first_answers, WroteAll, AndNextFile, WroteTextFront, WroteReportFront}
+use Rattle.dj_cli.specs.Output.{Piece, FileIs, IsFilePiece, IsNext, AreFirst, none, more, text_of, lines_of, Grew, ToldFirst, ToldAll, ToldSome, ToldFront, Cut, InText, InLines}
+use Rattle.dj_cli.specs.Methods.{line_bytes, lines_bytes}
+use Rattle.dj_cli.specs.Telling.{StoppedTelling, TellsPiece, CutsPiece, StopsPiece}
 
--- one piece and then another are one piece
-pub known_then : (old mid new : Option (List ℕ)) (a b : List ℕ) → mid ≡ append_known old a → new ≡ append_known mid b → new ≡ append_known old (a ++ b)
-known_then None mid new a b first second = second ∙ ap (λ known. append_known known b) first
-known_then (Some bytes) mid new a b first second = second ∙ ap (λ known. append_known known b) first ∙ ap Some (append_assoc bytes a b)
+-- ---- whether there is a line
 
--- a front of a second piece is a front of both
-pub front_then : (old mid new : Option (List ℕ)) (a b : List ℕ) → mid ≡ append_known old a → TakesPrefix mid new b → TakesPrefix old new (a ++ b)
-front_then old mid new a b first front =
-    (length a + front.0, known_then old mid new a (take front.0 b) first front.1 ∙ ap (append_known old) (sym (take-append-add a b front.0)))
-
--- the answers to files, and to one more
-pub AnswersEach-more : (names contents : List (List ℕ)) (name bytes text report first lines : List ℕ) → AnswersEach names contents text report → IsAnswer name bytes first lines
-    → AnswersEach (names ++ name ∷ []) (contents ++ bytes ∷ []) (text ++ first) (report ++ lines)
-AnswersEach-more [] [] name bytes text report first lines each one =
-    (first, [], lines, [], one, (refl, refl), ap (λ t. t ++ first) each.0 ∙ sym (append-nil first), ap (λ r. r ++ lines) each.1 ∙ sym (append-nil lines))
-AnswersEach-more [] (other ∷ contents) name bytes text report first lines each one = absurd each
-AnswersEach-more (other ∷ names) [] name bytes text report first lines each one = absurd each
-AnswersEach-more (other ∷ names) (content ∷ contents) name bytes text report first lines each one = (
-  each.0,
-  each.1 ++ first,
-  each.2,
-  each.3 ++ lines,
-  each.4,
-  AnswersEach-more names contents name bytes each.1 each.3 first lines each.5 one,
-  ap (λ t. t ++ first) each.6 ∙ append_assoc each.0 each.1 first,
-  ap (λ r. r ++ lines) each.7 ∙ append_assoc each.2 each.3 lines,
-)
-
--- whether the report of either has a line
-refused_either : (before one : Bool) (report lines : List ℕ) → MatchBool before (report ≢ []) (report ≡ []) → MatchBool one (lines ≢ []) (lines ≡ []) → MatchBool (before || one) (report ++ lines ≢ []) (report ++ lines ≡ [])
-refused_either false false report lines first second = ap (λ r. r ++ lines) first ∙ second
-refused_either false true report lines first second = λ none. second (sym (ap (λ r. r ++ lines) first) ∙ none)
-refused_either true one report lines first second = nonempty report first
+-- whether either has a line
+refused_either : (before one : Bool) (lines others : List ℕ) → MatchBool before (lines ≢ []) (lines ≡ []) → MatchBool one (others ≢ []) (others ≡ []) → MatchBool (before || one) (lines ++ others ≢ []) (lines ++ others ≡ [])
+refused_either false false lines others first second = ap (λ these. these ++ others) first ∙ second
+refused_either false true lines others first second = λ nil. second (sym (ap (λ these. these ++ others) first) ∙ nil)
+refused_either true one lines others first second = nonempty lines first
   where
-    nonempty : (report : List ℕ) → report ≢ [] → report ++ lines ≢ []
-    nonempty [] not_empty = λ none. not_empty refl
-    nonempty (byte ∷ rest) not_empty = λ none. absurd cc
+    nonempty : (lines : List ℕ) → lines ≢ [] → lines ++ others ≢ []
+    nonempty [] not_empty = λ nil. not_empty refl
+    nonempty (byte ∷ rest) not_empty = λ nil. absurd cc
 
--- whether a file has lines
-pub refused_told : (lines : List ℕ) (none : Bool) → none ≡ (length lines == 0) → MatchBool (not none) (lines ≢ []) (lines ≡ [])
-refused_told lines none is =
+-- no more than before
+or-false : (flag : Bool) → (flag || false) ≡ flag
+or-false true = refl
+or-false false = refl
+
+-- ---- what was told
+
+-- the text and the report, one piece more
+text-push : (pieces : List Piece) (piece : Piece) → text_of (pieces ++ piece ∷ []) ≡ text_of pieces ++ piece.text
+text-push pieces piece = sym (flat_map_more (λ (one : Piece). one.text) [] pieces piece)
+
+lines-push : (pieces : List Piece) (piece : Piece) → lines_of (pieces ++ piece ∷ []) ≡ lines_of pieces ++ piece.lines
+lines-push pieces piece = sym (flat_map_more (λ (one : Piece). one.lines) [] pieces piece)
+
+-- nothing was told
+grew-none : (text report : Option (List ℕ)) → Grew [] [] [] text text report report
+grew-none text report = record { text_taken = known-nothing text; report_taken = known-nothing report }
+
+-- pieces, and then so much of another
+grew-by : (pieces : List Piece) (text lines : List ℕ) (text_old text_mid text_new report_old report_mid report_new : Option (List ℕ)) → Grew pieces [] [] text_old text_mid report_old report_mid
+    → text_new ≡ append_known text_mid text → report_new ≡ append_known report_mid lines → Grew pieces text lines text_old text_new report_old report_new
+grew-by pieces text lines text_old text_mid text_new report_old report_mid report_new grew text_taken report_taken = record {
+  text_taken = known-then text_old text_mid text_new (text_of pieces ++ []) text grew.text_taken text_taken ∙ ap (λ these. append_known text_old (these ++ text)) (append-nil (text_of pieces));
+  report_taken = known-then report_old report_mid report_new (lines_of pieces ++ []) lines grew.report_taken report_taken ∙ ap (λ these. append_known report_old (these ++ lines)) (append-nil (lines_of pieces));
+}
+
+-- pieces, and then another, whole
+grew-push : (pieces : List Piece) (piece : Piece) (text_old text_new report_old report_new : Option (List ℕ)) → Grew pieces piece.text piece.lines text_old text_new report_old report_new
+    → Grew (pieces ++ piece ∷ []) [] [] text_old text_new report_old report_new
+grew-push pieces piece text_old text_new report_old report_new grew = record {
+  text_taken = grew.text_taken ∙ ap (append_known text_old) (sym (text-push pieces piece) ∙ sym (append-nil (text_of (pieces ++ piece ∷ []))));
+  report_taken = grew.report_taken ∙ ap (append_known report_old) (sym (lines-push pieces piece) ∙ sym (append-nil (lines_of (pieces ++ piece ∷ []))));
+}
+
+-- ---- the pieces of files
+
+module _ (names : List (List ℕ)) (found : List FileIs) where
+  -- the next piece is that of the file at its place
+  next_is : (before : List Piece) (i : ℕ) (name : List ℕ) (file : FileIs) (piece : Piece) → length before ≡ i → slice_get names i ≡ Some name → slice_get found i ≡ Some file → IsFilePiece name file piece → IsNext names found before piece
+  next_is before i name file piece number at_name at_file is = inl (rw (number, at_name, at_file) is)
+
+  -- no piece was told
+  pub told_none : (text report : Option (List ℕ)) → ToldFirst 0 false text text report report names found
+  told_none text report = record { pieces = []; are = none; number = refl; grew = grew-none text report; refused_is = refl }
+
+  module _ (i : ℕ) (refused : Bool) (text_old text_mid text_new report_old report_mid report_new : Option (List ℕ)) (told : ToldFirst i refused text_old text_mid report_old report_mid names found) where
+    -- the next piece was told
+    told_push : (piece : Piece) (one : Bool) → IsNext names found told.pieces piece → text_new ≡ append_known text_mid piece.text → report_new ≡ append_known report_mid piece.lines → MatchBool one (piece.lines ≢ []) (piece.lines ≡ [])
+        → ToldFirst (i + 1) (refused || one) text_old text_new report_old report_new names found
+    told_push piece one next text_taken report_taken refused_is = record {
+      pieces = told.pieces ++ piece ∷ [];
+      are = more told.pieces piece told.are next;
+      number = length_push told.pieces piece ∙ ap (λ n. n + 1) told.number;
+      grew = grew-push told.pieces piece text_old text_new report_old report_new
+      (grew-by told.pieces piece.text piece.lines text_old text_mid text_new report_old report_mid report_new told.grew text_taken report_taken);
+      refused_is = rw (lines-push told.pieces piece) (refused_either refused one (lines_of told.pieces) piece.lines told.refused_is refused_is);
+    }
+
+    module _ (name : List ℕ) (file : FileIs) (at_name : slice_get names i ≡ Some name) (at_file : slice_get found i ≡ Some file) where
+      -- the piece of the next file was told
+      pub told_more : (one : Bool) → TellsPiece (IsFilePiece name file) one text_mid text_new report_mid report_new → ToldFirst (i + 1) (refused || one) text_old text_new report_old report_new names found
+      told_more one this =
+          told_push this.piece one (next_is told.pieces i name file this.piece told.number at_name at_file this.is) this.text_taken this.report_taken this.refused_is
+
+      -- the piece of the next file was cut off
+      told_front : (cut : Cut) → CutsPiece (IsFilePiece name file) cut text_mid text_new report_mid report_new → ToldFront cut text_old text_new report_old report_new names found
+      told_front cut this = record {
+        pieces = told.pieces;
+        are = told.are;
+        next = this.piece;
+        is_next = next_is told.pieces i name file this.piece told.number at_name at_file this.is;
+        text = this.text;
+        lines = this.lines;
+        front = this.front;
+        grew = grew-by told.pieces this.text this.lines text_old text_mid text_new report_old report_mid report_new told.grew this.text_taken this.report_taken;
+      }
+
+      -- telling stopped at the next file
+      pub stops_telling : (stop : TellStop) → StopsPiece (IsFilePiece name file) stop text_mid text_new report_mid report_new
+          → StoppedTelling stop (ToldFront InText text_old text_new report_old report_new names found) (ToldFront InLines text_old text_new report_old report_new names found) (ToldSome text_old text_new report_old report_new names found)
+      stops_telling Text this = told_front InText this
+      stops_telling Report this = told_front InLines this
+      stops_telling (Memory error) this = (
+        i,
+        refused,
+        record {
+          pieces = told.pieces;
+          are = told.are;
+          number = told.number;
+          grew = record { text_taken = this.0 ∙ told.grew.text_taken; report_taken = this.1 ∙ told.grew.report_taken };
+          refused_is = told.refused_is;
+        },
+      )
+
+  -- all files were told, and then the last piece, which is nothing
+  pub told_all : (refused : Bool) (text_old text_new report_old report_new : Option (List ℕ)) → ToldFirst (length names) refused text_old text_new report_old report_new names found → ToldAll refused text_old text_new report_old report_new names found
+  told_all refused text_old text_new report_old report_new told =
+      let nothing : Piece = record { text = []; lines = [] } in
+      let next : IsNext names found told.pieces nothing = inr (told.number, record { no_text = refl; no_line = refl }) in
+      subst (λ flag. ToldAll flag text_old text_new report_old report_new names found) (or-false refused)
+      (told_push (length names) refused text_old text_new text_new report_old report_new report_new told nothing false next (known-nothing text_new) (known-nothing report_new) refl)
+
+-- ---- the lines of one piece
+
+-- a front of nothing is nothing
+front-none : (front back : List ℕ) → front ++ back ≡ [] → front ≡ []
+front-none [] back same = refl
+front-none (byte ∷ front) back same = absurd cc
+
+-- what ends in something is something
+pub back-some : (front : List ℕ) (byte : ℕ) (back : List ℕ) → front ++ byte ∷ back ≢ []
+back-some [] byte back = λ same. cc
+back-some (first ∷ front) byte back = λ same. cc
+
+-- one line more
+pub lines_bytes-push : (class : List ℕ) (lines : List MethodLine) (line : MethodLine) → lines_bytes class (lines ++ line ∷ []) ≡ lines_bytes class lines ++ line_bytes class line
+lines_bytes-push class lines line = sym (flat_map_more (line_bytes class) [] lines line)
+
+-- lines have bytes
+lines-some : (class : List ℕ) (lines : List MethodLine) → lines ≢ [] → lines_bytes class lines ≢ []
+lines-some class [] some = λ nil. some refl
+lines-some class (line ∷ lines) some = λ nil.
+    back-some (show_units class) 46 [] (front-none _ _ (front-none _ _ (front-none _ _ (front-none _ _ nil))))
+
+-- whether a piece has a line
+pub has-line : (class : List ℕ) (lines : List MethodLine) (empty : Bool) → empty ≡ (length lines == 0) → MatchBool (not empty) (lines_bytes class lines ≢ []) (lines_bytes class lines ≡ [])
+has-line class lines empty is =
     elim (eqb_tells (length lines) 0) [
-      | inl w ↦ subst (λ b. MatchBool (not b) (lines ≢ []) (lines ≡ [])) (sym (is ∙ w.0)) (nil_from_length lines w.1)
-      | inr w ↦ subst (λ b. MatchBool (not b) (lines ≢ []) (lines ≡ [])) (sym (is ∙ w.0)) (λ nil. w.1 (ap length nil))
+      | inl w ↦ subst (λ flag. MatchBool (not flag) (lines_bytes class lines ≢ []) (lines_bytes class lines ≡ [])) (sym (is ∙ w.0)) (ap (lines_bytes class) (nil_from_length lines w.1))
+      | inr w ↦ subst (λ flag. MatchBool (not flag) (lines_bytes class lines ≢ []) (lines_bytes class lines ≡ [])) (sym (is ∙ w.0)) (lines-some class lines (λ nil. w.1 (ap length nil)))
     ]
-
--- one more file told
-pub told_more : (names contents : List (List ℕ)) (i : ℕ) (name bytes : List ℕ) (text_old text_mid text_new report_old report_mid report_new : Option (List ℕ)) (refused one : Bool)
-    → take (i + 1) names ≡ take i names ++ name ∷ [] → take (i + 1) contents ≡ take i contents ++ bytes ∷ []
-    → WroteAll (AnswersEach (take i names) (take i contents)) text_old text_mid report_old report_mid refused
-    → WroteAll (IsAnswer name bytes) text_mid text_new report_mid report_new one
-    → WroteAll (AnswersEach (take (i + 1) names) (take (i + 1) contents)) text_old text_new report_old report_new (refused || one)
-told_more names contents i name bytes text_old text_mid text_new report_old report_mid report_new refused one more_names more_contents before this = record {
-  text = before.text ++ this.text;
-  report = before.report ++ this.report;
-  answer = rw (more_names, more_contents) (AnswersEach-more (take i names) (take i contents) name bytes before.text before.report this.text this.report before.answer this.answer);
-  text_taken = known_then text_old text_mid text_new before.text this.text before.text_taken this.text_taken;
-  report_taken = known_then report_old report_mid report_new before.report this.report before.report_taken this.report_taken;
-  refused_is = refused_either refused one before.report this.report before.refused_is this.refused_is;
-}
-
--- the answers to some first files and to the next one
-and_next_file : (names contents : List (List ℕ)) (i : ℕ) (name bytes text lines next_text next_lines : List ℕ)
-    → i < length names → take (i + 1) names ≡ take i names ++ name ∷ [] → take (i + 1) contents ≡ take i contents ++ bytes ∷ []
-    → first_answers names contents i text lines → IsAnswer name bytes next_text next_lines
-    → AndNextFile (first_answers names contents) (length names) text lines next_text next_lines
-and_next_file names contents i name bytes text lines next_text next_lines due more_names more_contents before this = record {
-  files = i;
-  due = due;
-  earlier = before;
-  answer = rw (more_names, more_contents) (AnswersEach-more (take i names) (take i contents) name bytes text lines next_text next_lines before this);
-}
-
--- after these files telling stopped in the text of one more
-stops_in_next_text : (names contents : List (List ℕ)) (i : ℕ) (name bytes : List ℕ) (text_old text_mid text_new report_old report_mid report_new : Option (List ℕ)) (refused : Bool)
-    → i < length names → take (i + 1) names ≡ take i names ++ name ∷ [] → take (i + 1) contents ≡ take i contents ++ bytes ∷ []
-    → WroteAll (first_answers names contents i) text_old text_mid report_old report_mid refused
-    → StopsInText name bytes text_mid text_new report_mid report_new
-    → WroteTextFront (first_answers names contents) (length names) text_old text_new report_old report_new
-stops_in_next_text names contents i name bytes text_old text_mid text_new report_old report_mid report_new refused due more_names more_contents before this = record {
-  text = before.text;
-  lines = before.report;
-  next_text = this.text;
-  next_lines = this.lines;
-  next = and_next_file names contents i name bytes before.text before.report this.text this.lines due more_names more_contents before.answer this.answer;
-  text_taken = subst (λ known. TakesPrefix known text_new this.text) before.text_taken this.text_taken;
-  report_taken = this.report_kept ∙ before.report_taken;
-}
-
--- after these files telling stopped in the lines of one more
-stops_in_next_lines : (names contents : List (List ℕ)) (i : ℕ) (name bytes : List ℕ) (text_old text_mid text_new report_old report_mid report_new : Option (List ℕ)) (refused : Bool)
-    → i < length names → take (i + 1) names ≡ take i names ++ name ∷ [] → take (i + 1) contents ≡ take i contents ++ bytes ∷ []
-    → WroteAll (first_answers names contents i) text_old text_mid report_old report_mid refused
-    → StopsInLines name bytes text_mid text_new report_mid report_new
-    → WroteReportFront (first_answers names contents) (length names) text_old text_new report_old report_new
-stops_in_next_lines names contents i name bytes text_old text_mid text_new report_old report_mid report_new refused due more_names more_contents before this = record {
-  text = before.text;
-  lines = before.report;
-  next_text = this.text;
-  next_lines = this.lines;
-  next = and_next_file names contents i name bytes before.text before.report this.text this.lines due more_names more_contents before.answer this.answer;
-  text_taken = known_then text_old text_mid text_new before.text this.text before.text_taken this.text_taken;
-  report_taken = subst (λ known. TakesPrefix known report_new this.lines) before.report_taken this.report_taken;
-}
-
--- a file at which telling stopped
-pub stops_telling : (stop : TellStop) (names contents : List (List ℕ)) (i : ℕ) (name bytes : List ℕ) (text_old text_mid text_new report_old report_mid report_new : Option (List ℕ)) (refused : Bool)
-    → i < length names → take (i + 1) names ≡ take i names ++ name ∷ [] → take (i + 1) contents ≡ take i contents ++ bytes ∷ []
-    → WroteAll (first_answers names contents i) text_old text_mid report_old report_mid refused
-    → StoppedTelling stop (StopsInText name bytes text_mid text_new report_mid report_new) (StopsInLines name bytes text_mid text_new report_mid report_new)
-    → StoppedTelling stop (WroteTextFront (first_answers names contents) (length names) text_old text_new report_old report_new) (WroteReportFront (first_answers names contents) (length names) text_old text_new report_old report_new)
-stops_telling Text names contents i name bytes text_old text_mid text_new report_old report_mid report_new refused due more_names more_contents before this =
-    stops_in_next_text names contents i name bytes text_old text_mid text_new report_old report_mid report_new refused due more_names more_contents before this
-stops_telling Report names contents i name bytes text_old text_mid text_new report_old report_mid report_new refused due more_names more_contents before this =
-    stops_in_next_lines names contents i name bytes text_old text_mid text_new report_old report_mid report_new refused due more_names more_contents before this
-stops_telling (Memory error) names contents i name bytes text_old text_mid text_new report_old report_mid report_new refused due more_names more_contents before this = this

@@ -1,21 +1,37 @@
--- How loading the files of an order ends.
-use Rattle.std.specs.Prelude.{◌≡◌, ℕ, List, map, ⊤, Vec}
+-- How loading the files of an order ends, and what each file is read as.
+use Rattle.std.specs.Prelude.{◌≡◌, ◌⊎◌, ℕ, List, map, Option, Some, None, All, Vec}
 use Rattle.std.specs.declared.alloc.Global.{Global}
+use Rattle.dj_class.specs.declared.class.ClassFile.{ClassFile}
+use Rattle.dj_class.specs.FirstForm.{view_class}
 use Rattle.dj_cli.specs.declared.loading.LoadStop.{LoadStop}
 use Rattle.dj_cli.specs.declared.loading.LoadStop.TheVariants.{Fault, Over, Memory}
+use Rattle.dj_cli.specs.Output.{FileIs, IsClass, IsOther, IsFile}
 
 -- the bytes of each file
 abbrev pub contents_of : List (Vec ℕ Global) → List (List ℕ)
 contents_of contents = map (λ bytes. bytes.items) contents
 
--- a fact of the place of a fault, one of the place of a file that is too large, and one of both
-abbrev pub Stopped : LoadStop → (ℕ → Type 0) → (ℕ → Type 0) → Type 0 → Type 0
-Stopped (Fault place) Fails IsOver asked = Fails place × asked
-Stopped (Over place) Fails IsOver asked = IsOver place × asked
-Stopped (Memory error) Fails IsOver asked = ⊤
+-- a fact of the place of a fault, and one of the place of a file that is too large
+abbrev pub Stopped : LoadStop → (ℕ → Type 0) → (ℕ → Type 0) → Type 0
+Stopped (Fault place) Fails IsOver = Fails place
+Stopped (Over place) Fails IsOver = IsOver place
+Stopped (Memory error) Fails IsOver = Unit {0}
 
--- the same of the load at one place
-abbrev pub StoppedAt : ℕ → LoadStop → Type 0 → Type 0 → Type 0 → Type 0
-StoppedAt here (Fault place) fails is_over asked = (place ≡ here) × fails × asked
-StoppedAt here (Over place) fails is_over asked = (place ≡ here) × is_over × asked
-StoppedAt here (Memory error) fails is_over asked = ⊤
+-- the load at one place stopped: the name was asked, but where memory was wanting it may not have been
+abbrev pub StoppedAt : ℕ → LoadStop → Type 0 → Type 0 → Type 0 → Type 0 → Type 0
+StoppedAt here (Fault place) fails is_over asked unasked = (place ≡ here) × fails × asked
+StoppedAt here (Over place) fails is_over asked unasked = (place ≡ here) × is_over × asked
+StoppedAt here (Memory error) fails is_over asked unasked = unasked ⊎ asked
+
+-- what a file is, by what was read of it
+abbrev pub found_of : Option ClassFile → FileIs
+found_of None = IsOther
+found_of (Some class) = IsClass (view_class class)
+
+-- the same of each file
+abbrev pub all_found : List (Option ClassFile) → List FileIs
+all_found found = map found_of found
+
+-- some bytes are such a file
+abbrev pub IsRead : FileIs → Type 0
+IsRead file = (bytes : List ℕ) × IsFile bytes file

@@ -30,11 +30,18 @@ kind_text kind.NoFile = codes "NoFile"
 kind_text kind.TwoOrders = codes "TwoOrders"
 kind_text kind.Number = codes "Number"
 
+-- how a line names a method of a class
+abbrev pub shown_method : List ℕ → List ℕ → Descriptor → List ℕ
+shown_method class name descriptor = show_units class ++ codes "." ++ show_units name ++ show_units (spell_descriptor descriptor)
+
+-- the end of the line on a method that isn't straight at this offset of its code
+abbrev pub not_yet_tail : ℕ → List ℕ
+not_yet_tail pc = codes " notyet " ++ decimal pc ++ 10 ∷ []
+
 -- a line with its end
 abbrev pub line_text : Line → List ℕ
 line_text (NotYet path) = show_units (path_units path) ++ codes " notyet" ++ 10 ∷ []
-line_text (NotYetMethod class name descriptor pc) =
-    show_units class ++ codes "." ++ show_units name ++ show_units (spell_descriptor descriptor) ++ codes " notyet " ++ decimal pc ++ 10 ∷ []
+line_text (NotYetMethod class name descriptor pc) = shown_method class name descriptor ++ not_yet_tail pc
 line_text (Usage kind) = codes "usage " ++ kind_text kind ++ 10 ∷ []
 line_text (Read place) = codes "read " ++ decimal place ++ 10 ∷ []
 line_text (Much place) = codes "much " ++ decimal place ++ 10 ∷ []

@@ -54,6 +54,6 @@ OnReportFault result P = MatchEnd result ⊤ ⊤ (λ _. ⊤) (λ _. ⊤) ⊤ P (
 abbrev pub IfTooMuch : Result Status AllocError → (ℕ → Type 0) → Type 0
 IfTooMuch result P = MatchEnd result ⊤ ⊤ (λ _. ⊤) (λ _. ⊤) ⊤ ⊤ P
 
--- a fact of a run that wrote all of its output
-abbrev pub OnAllWritten : Result Status AllocError → Type 0 → Type 0
-OnAllWritten result P = MatchEnd result P P (λ _. ⊤) (λ _. ⊤) ⊤ ⊤ (λ _. ⊤)
+-- a fact of a run that got to the texts: it wrote all of its output, or stopped in a text
+abbrev pub OnLoaded : Result Status AllocError → Type 0 → Type 0
+OnLoaded result P = MatchEnd result P P (λ _. ⊤) (λ _. ⊤) P ⊤ (λ _. ⊤)

@@ -3,13 +3,12 @@
 ghost use Rattle.std.specs.Prelude.{◌≡◌, ◌≢◌, ◌<◌, ℕ, List, Option, All, IfOk, IfSome, IfNone, length, map, slice_index};
 ghost use Rattle.dj_syntax.specs.Trees as trees;
 ghost use Rattle.dj_syntax.specs.Trees.{view_unit};
-ghost use Rattle.dj_syntax.specs.WellFormed.{held_class};
 ghost use Rattle.dj_class.specs.FirstForm.{view_class};
 ghost use Rattle.dj_cli.specs.ClassText.{IsClassText, IsSplit, IsLastSlash, file_line, printed_methods};
 
 use dj_class::ClassFile;
 use dj_names::{ClassName, Items, Units};
-use dj_syntax::{MethodText, Unit};
+use dj_syntax::{MethodText, Unit, held_class};
 use std::alloc::{AllocError, Global};
 
 /// A class's name as a package, where it has one, and a simple name.
@@ -70,7 +69,7 @@ pub fn class_unit(
     let name = split_name(alloc, &class.this_class)?;
     Ok(Unit {
         package: name.package,
-        flags: shown_flags(class.flags),
+        flags: held_class(class.flags),
         name: name.simple,
         superclass: None,
         interfaces: Items::new(alloc),
@@ -78,15 +77,4 @@ pub fn class_unit(
         helper: None,
         methods,
     })
-}
-
-/// The flags that the text of a class or interface shows or implies.
-fn shown_flags(flags: u16) -> u16
-    ensures held { result ≡ held_class flags }
-{
-    if flags & 0x0200 == 0 {
-        flags & 0x0411
-    } else {
-        flags & 0x0001 | 0x0600
-    }
 }

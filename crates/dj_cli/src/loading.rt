@@ -1,13 +1,15 @@
-//! The files of an order, loaded by name.
+//! The files of an order: loaded by name, and read.
 
-ghost use Rattle.std.specs.Prelude.{◌≡◌, ◌≤◌, ◌<◌, ◌++◌, length, map, Some, IfSome, IfOk, OnOk, IfErr};
-ghost use Rattle.std.specs.Option.{option_map};
+ghost use Rattle.std.specs.Prelude.{◌≡◌, ◌≤◌, ◌<◌, ◌++◌, length, map, IfSome, IfOk, OnOk, IfErr};
+ghost use Rattle.std.specs.List.{AllZip};
 ghost use Rattle.std.specs.String.{string_bytes};
 ghost use Rattle.dj_outer.specs.Count.{Rose};
-ghost use Rattle.dj_outer.specs.Files.{file_named, HasFile, with_asked};
-ghost use Rattle.dj_cli.specs.Program.{ReadFails, IsTooMuch, AsksFront, most_bytes};
-ghost use Rattle.dj_cli.specs.Loading.{contents_of, Stopped, StoppedAt};
+ghost use Rattle.dj_outer.specs.Files.{HasFile, with_asked};
+ghost use Rattle.dj_cli.specs.Output.{AreContents, IsFile, most_bytes};
+ghost use Rattle.dj_cli.specs.Program.{AsksFront, IsTooMuch, ReadFails, asked_with};
+ghost use Rattle.dj_cli.specs.Loading.{Stopped, StoppedAt, all_found, contents_of};
 
+use dj_class::{ClassFile, read_class};
 use dj_outer::{Files, LoadFault, Loaded};
 use std::alloc::{AllocError, AllocFailed, Global};
 
@@ -43,8 +45,9 @@ fn load_one<F: Files>(
     place: u32,
 ) -> Result<Vec<u8>, LoadStop>
     ensures loaded { IfOk result (λ bytes. HasFile (F.held files.old) name.now (λ file. file ≡ bytes.items)) }
+    ensures small { IfOk result (λ bytes. length bytes.items ≤ most_bytes) }
     ensures asked { OnOk result (F.asked files.new ≡ with_asked (F.asked files.old) name.now) }
-    ensures stopped { IfErr result (λ stop. StoppedAt place stop (Rose (F.faults files.old) (F.faults files.new)) (HasFile (F.held files.old) name.now (λ file. most_bytes < length file)) (F.asked files.new ≡ with_asked (F.asked files.old) name.now)) }
+    ensures stopped { IfErr result (λ stop. StoppedAt place stop (Rose (F.faults files.old) (F.faults files.new)) (HasFile (F.held files.old) name.now (λ file. most_bytes < length file)) (F.asked files.new ≡ with_asked (F.asked files.old) name.now) (F.asked files.new ≡ F.asked files.old)) }
 
     // What the call leaves.
     ensures kept { F.held files.new ≡ F.held files.old }
@@ -65,12 +68,13 @@ pub fn load_files<F: Files>(
     files: &mut F,
 ) -> Result<Vec<Vec<u8>>, LoadStop>
     requires few { length named.now ≤ 4096 }
-    ensures loaded { IfOk result (λ contents. IfSome (F.held files.old) (λ held. map (file_named held) (map string_bytes named.now) ≡ map Some (contents_of contents.items))) }
+    ensures loaded { IfOk result (λ contents. IfSome (F.held files.old) (λ held. AreContents held (map string_bytes named.now) (contents_of contents.items))) }
     ensures number { IfOk result (λ contents. length contents.items ≡ length named.now) }
-    ensures asked { OnOk result (F.asked files.new ≡ option_map (λ before. before ++ map string_bytes named.now) (F.asked files.old)) }
-    ensures stopped { IfErr result (λ stop. Stopped stop (ReadFails (map string_bytes named.now) (F.asked files.old) (F.asked files.new) (F.faults files.old) (F.faults files.new)) (IsTooMuch (F.held files.old) (map string_bytes named.now)) (AsksFront (F.asked files.old) (F.asked files.new) (map string_bytes named.now))) }
+    ensures asked_all { OnOk result (F.asked files.new ≡ asked_with (F.asked files.old) (map string_bytes named.now)) }
+    ensures stopped { IfErr result (λ stop. Stopped stop (ReadFails (F.held files.old) (map string_bytes named.now) (F.asked files.old) (F.asked files.new) (F.faults files.old) (F.faults files.new)) (IsTooMuch (F.held files.old) (map string_bytes named.now) (F.asked files.old) (F.asked files.new))) }
 
-    // What the call leaves.
+    // What the call asks for and leaves.
+    ensures asked { AsksFront (F.asked files.old) (F.asked files.new) (map string_bytes named.now) }
     ensures kept { F.held files.new ≡ F.held files.old }
     ensures never_falls { F.faults files.old ≤ F.faults files.new }
 {
@@ -82,4 +86,18 @@ pub fn load_files<F: Files>(
         place += 1;
     }
     Ok(contents)
+}
+
+/// What each file is: a class of the first form, or another file.
+pub fn read_files(
+    alloc: Global,
+    contents: &[Vec<u8>],
+) -> Result<Vec<Option<ClassFile>>, AllocError>
+    ensures read { IfOk result (λ found. AllZip IsFile (contents_of contents.now) (all_found found.items)) }
+{
+    let mut found = Vec::new(alloc);
+    for bytes in contents {
+        found.push(read_class(alloc, bytes.as_slice())?)?;
+    }
+    Ok(found)
 }

@@ -1,42 +1,79 @@
-//! What is written for the methods of a class.
+//! What is found of the methods of a class.
 
 ghost use Rattle.std.specs.Prelude.{◌≡◌, ◌⊎◌, All, IfOk, map};
-ghost use Rattle.dj_class.specs.FirstForm.{view_class};
+ghost use Rattle.dj_names.specs.Types.{view_descriptor};
+ghost use Rattle.dj_class.specs.FirstForm.{view_class, view_method};
 ghost use Rattle.dj_syntax.specs.Trees as trees;
-ghost use Rattle.dj_cli.specs.Methods.{AreAnswered};
+ghost use Rattle.dj_syntax.specs.Trees.{view_body, view_exp};
+ghost use Rattle.dj_cli.specs.ClassText.{method_text};
+ghost use Rattle.dj_cli.specs.Methods.{AreJudged, IsTextOf, lines_bytes};
 
-use crate::declared::Declared;
-use crate::report::put_method_line;
-use crate::straight_method::{Judged, judge, returning_text};
-use dj_class::ClassFile;
-use dj_names::Items;
-use dj_syntax::MethodText;
+use crate::report::not_yet_tail;
+use dj_class::{ClassFile, Method};
+use dj_names::{Items, copy_names};
+use dj_straight::{Declared, Judged, judge, returning_body};
+use dj_syntax::{Body, Exp, MethodText, method_bits};
 use std::alloc::{AllocError, Global};
 
-/// What is written for methods.
+/// The line on a method that isn't printed.
 #[derive(Debug, Drop)]
-pub struct Answered {
-    /// The texts of the straight ones, in file order.
-    pub texts: Items<MethodText>,
-    /// The lines on the others, in file order.
-    pub lines: Vec<u8>,
+pub struct MethodLine<'a> {
+    pub method: &'a Method,
+    /// How the line ends.
+    pub tail: String,
 }
 
-/// What is written for the methods of a class.
-pub fn answer_methods(alloc: Global, class: &ClassFile) -> Result<Answered, AllocError>
+/// What is found of the methods of a class.
+#[derive(Debug, Drop)]
+pub struct Judgement<'a> {
+    /// The texts of those that are printed, in file order.
+    pub texts: Items<MethodText>,
+    /// The lines on the others, in file order.
+    pub lines: Vec<MethodLine<'a>>,
+}
+
+/// The text of a method with this body.
+fn method_text(alloc: Global, method: &Method, body: Body) -> Result<MethodText, AllocError>
+    ensures text { IfOk result (λ text. trees.view_method text ≡ method_text (view_method method.now) (view_body body)) }
+{
+    Ok(MethodText {
+        flags: method.flags & method_bits(false),
+        name: method.name.copy(alloc)?,
+        descriptor: method.descriptor.copy(alloc)?,
+        thrown: copy_names(alloc, method.thrown.as_slice())?,
+        body: Some(body),
+    })
+}
+
+/// The text of a method that returns an expression.
+fn returning_text(
+    alloc: Global,
+    class: &ClassFile,
+    method: &Method,
+    exp: Exp,
+) -> Result<MethodText, AllocError>
+    ensures text { IfOk result (λ text. IsTextOf (view_class class.now) (view_method method.now) (view_exp exp) (trees.view_method text)) }
+{
+    let body = returning_body(alloc, class, method, exp)?;
+    method_text(alloc, method, body)
+}
+
+/// What is found of the methods of a class.
+pub fn judge_methods(alloc: Global, class: &ClassFile) -> Result<Judgement<'_>, AllocError>
     requires flags { All (λ method. (method.flags ≡ 0x8) ⊎ (method.flags ≡ 0x9)) (view_class class.now).methods }
-    ensures answered { IfOk result (λ answered. AreAnswered (view_class class.now) (view_class class.now).methods (map trees.view_method answered.texts) answered.lines.items) }
+    ensures judged { IfOk result (λ found. AreJudged (view_class class.now) (view_class class.now).methods (map trees.view_method found.texts) (lines_bytes class.now.this_class found.lines.items)) }
 {
     let mut texts = Items::new(alloc);
     let mut lines = Vec::new(alloc);
     let mut declared = Declared::new(alloc);
     for method in class.methods.as_slice() {
-        match judge(alloc, class.pool.as_slice(), &mut declared, method)? {
+        match judge(alloc, class, &mut declared, method)? {
             Judged::Straight(exp) => texts.push(returning_text(alloc, class, method, exp)?)?,
             Judged::NotYet(pc) => {
-                put_method_line(alloc, &mut lines, &class.this_class, method, pc)?;
+                let tail = not_yet_tail(alloc, pc)?;
+                lines.push(MethodLine { method, tail })?;
             }
         }
     }
-    Ok(Answered { texts, lines })
+    Ok(Judgement { texts, lines })
 }

@@ -1,15 +1,15 @@
-//! The lines of the report.
+//! The lines of the report: those that are made whole, and those on methods, which are put piece by piece.
 
-mod spelling;
-
-ghost use Rattle.std.specs.Prelude.{◌≡◌, ◌++◌, OnOk, IfOk};
+ghost use Rattle.std.specs.Prelude.{◌≡◌, ◌++◌, IfOk, string_bytes};
 ghost use Rattle.dj_names.specs.Types.{view_descriptor};
-ghost use Rattle.dj_cli.specs.Report.{path_units, line_text, kind_text, Line};
+ghost use Rattle.dj_outer.specs.Sink.{Puts};
+ghost use Rattle.dj_cli.specs.Report.{Line, kind_text, line_text, not_yet_tail, path_units, shown_method};
 
+use crate::putting::{put_descriptor, put_piece, put_units};
 use crate::status::UsageKind;
 use dj_class::Method;
 use dj_names::{ClassName, Units};
-use spelling::descriptor_units;
+use dj_outer::{Failed, Sink};
 use std::alloc::{AllocError, Global};
 
 /// The UTF-16 units of a path.
@@ -20,7 +20,7 @@ fn path_units(alloc: Global, path: &str) -> Result<Units, AllocError>
     for character in path.chars() {
         units.extend_from_slice(character.encode_utf16(&mut [0; 2]))?;
     }
-    Ok(Units::from_vec(units))
+    Units::from_vec(units)
 }
 
 /// A line that names a file of which nothing is printed yet.
@@ -31,20 +31,27 @@ pub fn not_yet_line(alloc: Global, path: &str) -> Result<Vec<u8>, AllocError>
     Ok(format!(in alloc; "{path} notyet\n")?.into_bytes())
 }
 
-/// Puts a line that names a method of a class that isn't straight at this offset of its code.
-pub fn put_method_line(
-    alloc: Global,
-    lines: &mut Vec<u8>,
+/// The end of the line on a method that isn't straight at this offset of its code.
+pub fn not_yet_tail(alloc: Global, pc: u32) -> Result<String, AllocError>
+    ensures tail { IfOk result (λ tail. string_bytes tail ≡ not_yet_tail pc) }
+{
+    format!(in alloc; " notyet {pc}\n")
+}
+
+/// Puts the line on a method of a class, which ends so.
+pub fn put_method_line<P: Sink>(
+    report: &mut P,
     class: &ClassName,
     method: &Method,
-    pc: u32,
-) -> Result<(), AllocError>
-    ensures line { OnOk result (lines.new.items ≡ lines.old.items ++ line_text (Line.NotYetMethod class.now method.now.name (view_descriptor method.now.descriptor) pc)) }
+    tail: &str,
+) -> Result<(), Failed>
+    ensures puts { Puts result (P.taken report.old) (P.taken report.new) (P.faults report.old) (P.faults report.new) (shown_method class.now method.now.name (view_descriptor method.now.descriptor) ++ tail.now) }
 {
-    let name = &method.name;
-    let descriptor = descriptor_units(alloc, &method.descriptor)?;
-    let line = format!(in alloc; "{class}.{name}{descriptor} notyet {pc}\n")?;
-    lines.extend_from_slice(line.as_bytes())
+    put_units(report, class.as_slice())?;
+    put_piece(report, b".")?;
+    put_units(report, method.name.as_slice())?;
+    put_descriptor(report, &method.descriptor)?;
+    put_piece(report, tail.as_bytes())
 }
 
 /// The line on the words.

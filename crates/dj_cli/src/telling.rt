@@ -1,17 +1,22 @@
-//! The answers to files, told to the text and to the report.
+//! The pieces of files, told to the text and to the report.
 
-ghost use Rattle.std.specs.Prelude.{◌≡◌, ◌≤◌, ◌++◌, length, map, take, IfOk, OnOk, OnErr, IfErr};
-ghost use Rattle.std.specs.Io.KnownBytes.{append_known};
+ghost use Rattle.std.specs.Prelude.{◌≡◌, ◌≤◌, ◌++◌, ℕ, List, Option, All, IfOk, IfErr, length, map};
 ghost use Rattle.std.specs.String.{string_bytes};
 ghost use Rattle.dj_outer.specs.Count.{Rose};
-ghost use Rattle.dj_outer.specs.Sink.{TakesPrefix};
-ghost use Rattle.dj_cli.specs.Answer.{IsAnswer};
-ghost use Rattle.dj_cli.specs.AnswerView.{text_of};
-ghost use Rattle.dj_cli.specs.Loading.{contents_of};
-ghost use Rattle.dj_cli.specs.Program.{AnswersEach, first_answers, WroteAll, WroteTextFront, WroteReportFront};
-ghost use Rattle.dj_cli.specs.Telling.{StoppedTelling, StopsInText, StopsInLines};
+ghost use Rattle.dj_outer.specs.Sink.{Puts};
+ghost use Rattle.dj_class.specs.FirstForm.{IsFirstForm, view_class};
+ghost use Rattle.dj_cli.specs.Loading.{IsRead, all_found, found_of};
+ghost use Rattle.dj_cli.specs.Methods.{lines_bytes};
+ghost use Rattle.dj_cli.specs.Output.{InLines, InText, IsFilePiece, IsOther, PrintsClass, ToldAll, ToldFront, ToldSome};
+ghost use Rattle.dj_cli.specs.Pieces.{text_bytes};
+ghost use Rattle.dj_cli.specs.Telling.{StoppedTelling, StopsPiece, TellsPiece};
 
-use crate::answer::{Printed, answer_file};
+use crate::methods::MethodLine;
+use crate::pieces::{ClassPiece, piece_of_class};
+use crate::putting::put_piece;
+use crate::report::{not_yet_line, put_method_line};
+use dj_class::ClassFile;
+use dj_names::ClassName;
 use dj_outer::{Failed, Sink};
 use std::alloc::{AllocError, Global};
 
@@ -36,81 +41,104 @@ impl From<AllocError> for TellStop {
     }
 }
 
-/// Puts the line and the unit of a class, each whole.
-fn put_text<T: Sink>(text: &mut T, printed: &Printed) -> Result<(), Failed>
-    ensures ok { OnOk result (T.taken text.new ≡ append_known (T.taken text.old) (printed.now.line.items ++ printed.now.unit.items)) }
-    ensures front { OnErr result (TakesPrefix (T.taken text.old) (T.taken text.new) (printed.now.line.items ++ printed.now.unit.items)) }
-    ensures failed { OnErr result (Rose (T.faults text.old) (T.faults text.new)) }
-    ensures never_falls { T.faults text.old ≤ T.faults text.new }
+/// Puts the text of a class: the line that names its file, and then its unit.
+fn put_text<T: Sink>(text: &mut T, piece: &ClassPiece) -> Result<(), Failed>
+    ensures puts { Puts result (T.taken text.old) (T.taken text.new) (T.faults text.old) (T.faults text.new) (text_bytes piece.now) }
 {
-    text.put(printed.line.as_slice())?;
-    text.put(printed.unit.as_slice())
+    put_piece(text, piece.line.as_slice())?;
+    put_piece(text, piece.unit.as_slice())
 }
 
-/// Puts the text of a file, where it has one.
-fn put_printed<T: Sink>(text: &mut T, printed: &Option<Printed>) -> Result<(), Failed>
-    ensures ok { OnOk result (T.taken text.new ≡ append_known (T.taken text.old) (text_of printed.now)) }
-    ensures front { OnErr result (TakesPrefix (T.taken text.old) (T.taken text.new) (text_of printed.now)) }
-    ensures failed { OnErr result (Rose (T.faults text.old) (T.faults text.new)) }
-    ensures never_falls { T.faults text.old ≤ T.faults text.new }
+/// Puts lines on methods of a class.
+fn put_lines<P: Sink>(
+    report: &mut P,
+    class: &ClassName,
+    lines: &[MethodLine],
+) -> Result<(), Failed>
+    ensures puts { Puts result (P.taken report.old) (P.taken report.new) (P.faults report.old) (P.faults report.new) (lines_bytes class.now lines.now) }
 {
-    match printed {
-        Some(printed) => put_text(text, printed),
-        None => Ok(()),
+    for line in lines {
+        put_method_line(report, class, line.method, line.tail.as_str())?;
     }
+    Ok(())
 }
 
-/// Puts the lines of a file, where there are any.
-fn put_lines<P: Sink>(report: &mut P, lines: &[u8]) -> Result<(), Failed>
-    ensures ok { OnOk result (P.taken report.new ≡ append_known (P.taken report.old) lines.now) }
-    ensures front { OnErr result (TakesPrefix (P.taken report.old) (P.taken report.new) lines.now) }
-    ensures failed { OnErr result (Rose (P.faults report.old) (P.faults report.new)) }
-    ensures never_falls { P.faults report.old ≤ P.faults report.new }
-{
-    if lines.is_empty() {
-        return Ok(());
-    }
-    report.put(lines)
-}
-
-/// Tells the answer to one file: its text, and then its lines; whether it has a line.
-fn tell_file<T: Sink, P: Sink>(
+/// Tells the piece of a class: its text, and then its lines, for which no memory is taken; whether it has a line.
+fn tell_class<T: Sink, P: Sink>(
     alloc: Global,
-    path: &str,
-    bytes: &[u8],
+    class: &ClassFile,
     text: &mut T,
     report: &mut P,
 ) -> Result<bool, TellStop>
-    ensures told { IfOk result (WroteAll (IsAnswer path.now bytes.now) (T.taken text.old) (T.taken text.new) (P.taken report.old) (P.taken report.new)) }
-    ensures front { IfErr result (λ stop. StoppedTelling stop (StopsInText path.now bytes.now (T.taken text.old) (T.taken text.new) (P.taken report.old) (P.taken report.new)) (StopsInLines path.now bytes.now (T.taken text.old) (T.taken text.new) (P.taken report.old) (P.taken report.new))) }
-    ensures failed { IfErr result (λ stop. StoppedTelling stop (Rose (T.faults text.old) (T.faults text.new)) (Rose (P.faults report.old) (P.faults report.new))) }
+    requires first_form { (bytes : List ℕ) × IsFirstForm bytes (view_class class.now) }
+    ensures told { IfOk result (λ refused. TellsPiece (PrintsClass (view_class class.now)) refused (T.taken text.old) (T.taken text.new) (P.taken report.old) (P.taken report.new)) }
+    ensures stopped { IfErr result (λ stop. StopsPiece (PrintsClass (view_class class.now)) stop (T.taken text.old) (T.taken text.new) (P.taken report.old) (P.taken report.new)) }
+    ensures failed { IfErr result (λ stop. StoppedTelling stop (Rose (T.faults text.old) (T.faults text.new)) (Rose (P.faults report.old) (P.faults report.new)) (Unit {0})) }
 
     // What the call leaves.
     ensures text_falls { T.faults text.old ≤ T.faults text.new }
     ensures report_falls { P.faults report.old ≤ P.faults report.new }
 {
-    let answer = answer_file(alloc, path, bytes)?;
-    if let Err(Failed) = put_printed(text, &answer.printed) {
+    let piece = piece_of_class(alloc, class)?;
+    if let Err(Failed) = put_text(text, &piece) {
         return Err(TellStop::Text);
     }
-    if let Err(Failed) = put_lines(report, answer.report.as_slice()) {
+    if let Err(Failed) = put_lines(report, &class.this_class, piece.lines.as_slice()) {
         return Err(TellStop::Report);
     }
-    Ok(!answer.report.is_empty())
+    Ok(!piece.lines.is_empty())
 }
 
-/// Tells the answers to files of these names and contents, in order; whether one has a line.
-pub fn tell_files<T: Sink, P: Sink>(
+/// Tells the line on a file of which nothing is printed yet; that it has a line.
+fn tell_other<P: Sink>(alloc: Global, path: &str, report: &mut P) -> Result<bool, TellStop>
+    ensures told { (text : Option (List ℕ)) → IfOk result (λ refused. TellsPiece (IsFilePiece path.now IsOther) refused text text (P.taken report.old) (P.taken report.new)) }
+    ensures stopped { (text : Option (List ℕ)) → IfErr result (λ stop. StopsPiece (IsFilePiece path.now IsOther) stop text text (P.taken report.old) (P.taken report.new)) }
+    ensures failed { IfErr result (λ stop. StoppedTelling stop ⊥ (Rose (P.faults report.old) (P.faults report.new)) (Unit {0})) }
+    ensures report_falls { P.faults report.old ≤ P.faults report.new }
+{
+    let line = not_yet_line(alloc, path)?;
+    match put_piece(report, line.as_slice()) {
+        Ok(()) => Ok(true),
+        Err(Failed) => Err(TellStop::Report),
+    }
+}
+
+/// Tells the piece of a file of this path; whether it has a line.
+fn tell_file<T: Sink, P: Sink>(
     alloc: Global,
-    named: &[String],
-    contents: &[Vec<u8>],
+    path: &str,
+    found: &Option<ClassFile>,
     text: &mut T,
     report: &mut P,
 ) -> Result<bool, TellStop>
-    requires number { length contents.now ≡ length named.now }
-    ensures told { IfOk result (WroteAll (AnswersEach (map string_bytes named.now) (contents_of contents.now)) (T.taken text.old) (T.taken text.new) (P.taken report.old) (P.taken report.new)) }
-    ensures front { IfErr result (λ stop. StoppedTelling stop (WroteTextFront (first_answers (map string_bytes named.now) (contents_of contents.now)) (length (map string_bytes named.now)) (T.taken text.old) (T.taken text.new) (P.taken report.old) (P.taken report.new)) (WroteReportFront (first_answers (map string_bytes named.now) (contents_of contents.now)) (length (map string_bytes named.now)) (T.taken text.old) (T.taken text.new) (P.taken report.old) (P.taken report.new))) }
-    ensures failed { IfErr result (λ stop. StoppedTelling stop (Rose (T.faults text.old) (T.faults text.new)) (Rose (P.faults report.old) (P.faults report.new))) }
+    requires read { IsRead (found_of found.now) }
+    ensures told { IfOk result (λ refused. TellsPiece (IsFilePiece path.now (found_of found.now)) refused (T.taken text.old) (T.taken text.new) (P.taken report.old) (P.taken report.new)) }
+    ensures stopped { IfErr result (λ stop. StopsPiece (IsFilePiece path.now (found_of found.now)) stop (T.taken text.old) (T.taken text.new) (P.taken report.old) (P.taken report.new)) }
+    ensures failed { IfErr result (λ stop. StoppedTelling stop (Rose (T.faults text.old) (T.faults text.new)) (Rose (P.faults report.old) (P.faults report.new)) (Unit {0})) }
+
+    // What the call leaves.
+    ensures text_falls { T.faults text.old ≤ T.faults text.new }
+    ensures report_falls { P.faults report.old ≤ P.faults report.new }
+{
+    match found {
+        Some(class) => tell_class(alloc, class, text, report),
+        None => tell_other(alloc, path, report),
+    }
+}
+
+/// Tells the pieces of files of these names, in order, and then the last piece; whether one has a line.
+pub fn tell_files<T: Sink, P: Sink>(
+    alloc: Global,
+    named: &[String],
+    found: &[Option<ClassFile>],
+    text: &mut T,
+    report: &mut P,
+) -> Result<bool, TellStop>
+    requires number { length found.now ≡ length named.now }
+    requires read { All IsRead (all_found found.now) }
+    ensures told { IfOk result (λ refused. ToldAll refused (T.taken text.old) (T.taken text.new) (P.taken report.old) (P.taken report.new) (map string_bytes named.now) (all_found found.now)) }
+    ensures stopped { IfErr result (λ stop. StoppedTelling stop (ToldFront InText (T.taken text.old) (T.taken text.new) (P.taken report.old) (P.taken report.new) (map string_bytes named.now) (all_found found.now)) (ToldFront InLines (T.taken text.old) (T.taken text.new) (P.taken report.old) (P.taken report.new) (map string_bytes named.now) (all_found found.now)) (ToldSome (T.taken text.old) (T.taken text.new) (P.taken report.old) (P.taken report.new) (map string_bytes named.now) (all_found found.now))) }
+    ensures failed { IfErr result (λ stop. StoppedTelling stop (Rose (T.faults text.old) (T.faults text.new)) (Rose (P.faults report.old) (P.faults report.new)) (Unit {0})) }
 
     // What the call leaves.
     ensures text_falls { T.faults text.old ≤ T.faults text.new }
@@ -118,13 +146,7 @@ pub fn tell_files<T: Sink, P: Sink>(
 {
     let mut refused = false;
     for place in 0..named.len() {
-        let one = tell_file(
-            alloc,
-            named[place].as_str(),
-            contents[place].as_slice(),
-            text,
-            report,
-        )?;
+        let one = tell_file(alloc, named[place].as_str(), &found[place], text, report)?;
         refused |= one;
     }
     Ok(refused)

@@ -35,6 +35,7 @@ pub use relations::paths_can_be_cut;
 pub use sayable::{is_sayable, is_variable_like};
 pub use shared::Shared;
 pub use shared_list::SharedList;
+pub use shown::{hex_digit, is_shown_plain};
 pub use sqlite_items::{Boxed, Items};
 pub use static_type::StaticType;
 pub use types::JType;

@@ -38,7 +38,7 @@ impl fmt::Display for Shown {
 
     fn fmt<W: fmt::Write>(&self, f: &mut fmt::Formatter<W>) -> fmt::Result {
         let unit = self.0;
-        if is_plain(unit) {
+        if is_shown_plain(unit) {
             write!(f, "{}", char::from(unit as u8))
         } else {
             write!(f, "{}", Escaped(unit))
@@ -63,7 +63,7 @@ impl fmt::Display for Escaped {
 }
 
 /// Whether a report spells the unit by itself.
-fn is_plain(unit: u16) -> bool
+pub fn is_shown_plain(unit: u16) -> bool
     ensures plain { result ≡ is_shown_plain unit }
     ensures ascii { IsTrue result → unit < 128 }
 {
@@ -71,7 +71,7 @@ fn is_plain(unit: u16) -> bool
 }
 
 /// A hexadecimal digit.
-fn hex_digit(digit: u16) -> char
+pub fn hex_digit(digit: u16) -> char
     requires { digit < 16 }
     ensures digit { result ≡ hex_digit digit }
     ensures ascii { result < 128 }

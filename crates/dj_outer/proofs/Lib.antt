@@ -1,1 +1,2 @@
 mod WroteFront
+pub mod PutsLemmas

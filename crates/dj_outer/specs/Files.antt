@@ -1,5 +1,6 @@
 -- What the four answers of a load say, and which file has a name.
-use Rattle.std.specs.Prelude.{◌++◌, [], ◌∷◌, ℕ, List, Option, Result, Ok, Err, IfSome, IsSomeAnd, find, bytes_eq, ⊤}
+use Rattle.std.specs.Prelude.{◌++◌, [], ◌∷◌, ℕ, List, Option, Result, Ok, Err, IfSome, IsSomeAnd, find, bytes_eq, ⊤, ◌≤◌, length}
+use Rattle.std.specs.Io.KnownBytes.{Consumes}
 use Rattle.std.specs.Option.{option_map}
 use Rattle.dj_outer.specs.declared.files.Loaded.{Loaded}
 use Rattle.dj_outer.specs.declared.files.Loaded.TheVariants.{Whole, Over}
@@ -44,3 +45,7 @@ HasFile held name P = IfSome held (λ files. IsSomeAnd (file_named files name) P
 -- the names asked, where they are told, with this one at the end; what isn't told stays so
 abbrev pub with_asked : Option (List (List ℕ)) → List ℕ → Option (List (List ℕ))
 with_asked asked name = option_map (λ names. names ++ name ∷ []) asked
+
+-- where the bytes left are told, at most so many of them were taken
+abbrev pub TakesAtMost : ℕ → Option (List ℕ) → Option (List ℕ) → Type 0
+TakesAtMost most old new = (taken : List ℕ) × (length taken ≤ most) × Consumes old new taken

@@ -1,6 +1,6 @@
 //! Files of the real system: the trusted edge, which counts faults and tells nothing else.
-ghost use Rattle.std.specs.Prelude.{◌≡◌, ◌≤◌, ◌<◌, None, IfSome, length};
-ghost use Rattle.dj_outer.specs.Files.{IfWhole, OnOver};
+ghost use Rattle.std.specs.Prelude.{◌≡◌, ◌≤◌, ◌<◌, ◌+◌, None, IfSome, length};
+ghost use Rattle.dj_outer.specs.Files.{IfWhole, OnOver, TakesAtMost};
 
 use crate::count::raise;
 use crate::{Files, LoadFault, Loaded};
@@ -72,7 +72,7 @@ fn load_file<R: rt::Files>(
     read_within(alloc, &mut file, limit, &mut buffer)
 }
 
-/// Reads to the end, or one byte past the limit.
+/// Reads to the end, or one byte past the limit and no further.
 fn read_within<R: Read>(
     alloc: Global,
     reader: &mut R,
@@ -84,6 +84,7 @@ fn read_within<R: Read>(
         (λ bytes. IfSome (R.remaining reader.old) (λ left. left ≡ bytes)) }
     ensures within { IfWhole result (λ bytes. length bytes ≤ limit) }
     ensures over { OnOver result (IfSome (R.remaining reader.old) (λ left. limit < length left)) }
+    ensures front { TakesAtMost (limit + 1) (R.remaining reader.old) (R.remaining reader.new) }
 {
     let mut bytes = Vec::new(alloc);
     while bytes.len() <= limit {

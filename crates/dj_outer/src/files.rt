@@ -17,9 +17,11 @@ pub enum Loaded {
 pub struct Failed;
 
 /// Why a load gave nothing: the outside failed, or memory was wanting.
-#[derive(Clone, Copy, Debug, PartialEq, Eq)]
+#[derive(Clone, Copy, Debug, PartialEq, Eq, Error)]
 pub enum LoadFault {
+    #[error("the outside failed")]
     Failed,
+    #[error(transparent)]
     Memory(AllocError),
 }
 

@@ -1,36 +1,60 @@
-use Rattle.std.proofs.Common.{◌<◌, length, map, arith}
+use Rattle.std.proofs.Common.{◌≡◌, ◌<◌, length, map, sym, ◌∙◌, subst, arith}
 use Rattle.std.specs.String.{string_bytes}
 use Rattle.std.proofs.lemmas.List.{length-map}
 use Rattle.std.proofs.lemmas.Result.{err_from_is_err_and}
-use Rattle.dj_cli.specs.Loading.{contents_of}
-use Rattle.dj_cli.proofs.LoadingLemmas.{take_map_more}
-use Rattle.dj_cli.proofs.TellingLemmas.{told_more, stops_telling}
+use Rattle.dj_cli.specs.Loading.{IsRead, all_found, found_of}
+use Rattle.dj_cli.specs.Output.{ToldFirst}
+use Rattle.dj_cli.proofs.LoadingLemmas.{name_at}
+use Rattle.dj_cli.proofs.MethodsLemmas.{all_at}
+use Rattle.dj_cli.proofs.TellingLemmas.{stops_telling, told_all, told_more, told_none}
 use Rattle.dj_cli.proofs.telling.tell_files.Goals as goal
 
-pub returns-in_err-one-clause-front : goal.returns-in_err-one-clause-front
-returns-in_err-one-clause-front g c =
+pub loop-place-init : goal.loop-place-init
+loop-place-init g c = record {
+  text_falls = omega arith;
+  report_falls = omega arith;
+  told = told_none (map string_bytes c.args.named.now) (all_found c.args.found.now) (g.T.Sink.taken c.args.text.now) (g.P.Sink.taken c.args.report.now);
+}
+
+pub tell_file-requires : goal.tell_file-requires
+tell_file-requires g c =
+    let found = c.args.found.now in
+    let inside : c.loop-place.place < length found = omega arith in
+    record { read = all_at found_of IsRead found c.loop-place.place c.index-found-place.result c.requires.read inside c.index-found-place.is }
+
+pub returns-in_err-one-clause-stopped : goal.returns-in_err-one-clause-stopped
+returns-in_err-one-clause-stopped g c =
     let named = c.args.named.now in
-    let contents = c.args.contents.now in
+    let found = c.args.found.now in
     let i = c.loop-place.place in
-    let in_names : i < length named = omega arith in
-    let in_contents : i < length contents = omega arith in
-    let more_names = take_map_more string_bytes named i c.index-named-place.result in_names c.index-named-place.is in
-    let more_contents = take_map_more (λ bytes. bytes.items) contents i c.index-contents-place.result in_contents c.index-contents-place.is in
+    let in_named : i < length named = omega arith in
+    let in_found : i < length found = omega arith in
+    let at_name = name_at string_bytes named i c.index-named-place.result in_named c.index-named-place.is in
+    let at_file = name_at found_of found i c.index-found-place.result in_found c.index-found-place.is in
     let p = err_from_is_err_and c.from_residual.result c.from_residual.ensures.1 in
     rw (p.1, p.2)
-    (stops_telling c.in_err-one.field-0.0 (map string_bytes named) (contents_of contents) i (string_bytes c.index-named-place.result) c.index-contents-place.result.items (g.T.Sink.taken c.args.text.now) (g.T.Sink.taken c.loop-place.text) (g.T.Sink.taken c.tell_file.new.text) (g.P.Sink.taken c.args.report.now) (g.P.Sink.taken c.loop-place.report) (g.P.Sink.taken c.tell_file.new.report) c.loop-place.refused (rw length-map in_names) more_names more_contents c.loop-place.invariant.told (rw (c.as_str.ensures.value, c.as_slice.ensures.value) at c.in_err-one.ensures.front))
+    (stops_telling (map string_bytes named) (all_found found) i c.loop-place.refused (g.T.Sink.taken c.args.text.now) (g.T.Sink.taken c.loop-place.text) (g.T.Sink.taken c.tell_file.new.text) (g.P.Sink.taken c.args.report.now) (g.P.Sink.taken c.loop-place.report) (g.P.Sink.taken c.tell_file.new.report) c.loop-place.invariant.told (string_bytes c.index-named-place.result) (found_of c.index-found-place.result) at_name at_file c.in_err-one.field-0.0 (rw c.as_str.ensures.value at c.in_err-one.ensures.stopped))
 
 pub loop-place-preserved : goal.loop-place-preserved
 loop-place-preserved g c =
     let named = c.args.named.now in
-    let contents = c.args.contents.now in
+    let found = c.args.found.now in
     let i = c.loop-place.place in
-    let in_names : i < length named = omega arith in
-    let in_contents : i < length contents = omega arith in
-    let more_names = take_map_more string_bytes named i c.index-named-place.result in_names c.index-named-place.is in
-    let more_contents = take_map_more (λ bytes. bytes.items) contents i c.index-contents-place.result in_contents c.index-contents-place.is in
+    let in_named : i < length named = omega arith in
+    let in_found : i < length found = omega arith in
+    let at_name = name_at string_bytes named i c.index-named-place.result in_named c.index-named-place.is in
+    let at_file = name_at found_of found i c.index-found-place.result in_found c.index-found-place.is in
     record {
       text_falls = omega arith;
       report_falls = omega arith;
-      told = told_more (map string_bytes named) (contents_of contents) i (string_bytes c.index-named-place.result) c.index-contents-place.result.items (g.T.Sink.taken c.args.text.now) (g.T.Sink.taken c.loop-place.text) (g.T.Sink.taken c.tell_file.new.text) (g.P.Sink.taken c.args.report.now) (g.P.Sink.taken c.loop-place.report) (g.P.Sink.taken c.tell_file.new.report) c.loop-place.refused c.in_ok-one.one more_names more_contents c.loop-place.invariant.told (rw (c.as_str.ensures.value, c.as_slice.ensures.value) at c.in_ok-one.ensures.told);
+      told = told_more (map string_bytes named) (all_found found) i c.loop-place.refused (g.T.Sink.taken c.args.text.now) (g.T.Sink.taken c.loop-place.text) (g.T.Sink.taken c.tell_file.new.text) (g.P.Sink.taken c.args.report.now) (g.P.Sink.taken c.loop-place.report) (g.P.Sink.taken c.tell_file.new.report) c.loop-place.invariant.told (string_bytes c.index-named-place.result) (found_of c.index-found-place.result) at_name at_file c.in_ok-one.one (rw c.as_str.ensures.value at c.in_ok-one.ensures.told);
     }
+
+pub returns-clause-told : goal.returns-clause-told
+returns-clause-told g c =
+    let named = c.args.named.now in
+    let found = all_found c.args.found.now in
+    let end : c.loop-place.place ≡ length named = omega arith in
+    let all : c.loop-place.place ≡ length (map string_bytes named) = end ∙ sym (length-map named string_bytes) in
+    told_all (map string_bytes named) found c.loop-place.refused (g.T.Sink.taken c.args.text.now) (g.T.Sink.taken c.loop-place.text) (g.P.Sink.taken c.args.report.now) (g.P.Sink.taken c.loop-place.report)
+    (subst (λ count. ToldFirst count c.loop-place.refused (g.T.Sink.taken c.args.text.now) (g.T.Sink.taken c.loop-place.text) (g.P.Sink.taken c.args.report.now) (g.P.Sink.taken c.loop-place.report) (map string_bytes named) found) all c.loop-place.invariant.told)

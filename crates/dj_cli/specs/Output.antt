@@ -1,0 +1,201 @@
+-- What a run tells of the files of an order, in pieces, and how far it got: the headline.
+use Rattle.std.specs.Prelude.{◌≡◌, ◌≢◌, ◌⊎◌, ℕ, ◌+◌, ◌≤◌, Bool, List, [], ◌∷◌, ◌++◌, length, map, take, slice_get, Option, Some, None, IfSome, IsSomeAnd, MatchBool, All, ⊤}
+use Rattle.std.specs.List.{AllZip, flat_map}
+use Rattle.std.specs.Io.KnownBytes.{append_known}
+use Rattle.dj_outer.specs.Files.{file_named}
+use Rattle.dj_names.specs.declared.header.Header.{Header}
+use Rattle.dj_names.specs.declared.members.ClassMembers.{ClassMembers}
+use Rattle.dj_class.specs.ResolvedClass.{ClassOf, MethodOf}
+use Rattle.dj_class.specs.FirstForm.{IsFirstForm}
+use Rattle.dj_syntax.specs.Trees.{Exp, Body, CompilationUnit}
+use Rattle.dj_syntax.specs.UnitText.{unit_text}
+use Rattle.dj_syntax.specs.WellFormed.{IsWellFormed}
+use Rattle.dj_code.specs.declared.code.Code.{Code}
+use Rattle.dj_bytecode.specs.SameShows.{SameShows}
+use Rattle.dj_straight.specs.StraightMethod.{IsStraightMethod, IsNotYet, IsBodyOf, HasCode}
+use Rattle.dj_cli.specs.ClassText.{IsClassText, file_line}
+use Rattle.dj_cli.specs.Report.{line_text}
+use Rattle.dj_cli.specs.Report as report
+
+-- what is told of one file, or behind the last one: a text, and then the lines of the report on it
+pub record Piece : Type 0 where
+  pub text : List ℕ
+  pub lines : List ℕ
+
+-- ---- a method
+
+-- what is found of a method, in the order in which a method is refused
+pub data Verdict : Type 0 where
+  Prints : Body → Verdict
+  NotYet : ℕ → Verdict
+
+-- a straight method, and its body, which shows the same as its code at every bound, whatever classes may run, for all arguments that fit and all answers
+pub record PrintsMethod (class : ClassOf) (before : List MethodOf) (method : MethodOf) (body : Body) : Type 0 where
+  pub exp : Exp
+  pub straight : IsStraightMethod class before method exp
+  pub of_method : IsBodyOf class method exp body
+  pub shows : (world : List Header) (members : List ClassMembers) (code : Code) → HasCode class method straight.content code → SameShows world members code body
+
+-- the verdict on a method of a class, those before it in the file given: it is printed, or it isn't straight at this offset of its code
+abbrev pub IsVerdict : ClassOf → List MethodOf → MethodOf → Verdict → Type 0
+IsVerdict class before method (Prints body) = PrintsMethod class before method body
+IsVerdict class before method (NotYet pc) = IsNotYet class before method pc
+
+-- one verdict for each method, in file order
+abbrev pub AreVerdicts : ClassOf → List MethodOf → List MethodOf → List Verdict → Type 0
+AreVerdicts class before [] [] = ⊤
+AreVerdicts class before [] (verdict ∷ verdicts) = ⊥
+AreVerdicts class before (method ∷ methods) [] = ⊥
+AreVerdicts class before (method ∷ methods) (verdict ∷ verdicts) =
+    IsVerdict class before method verdict × AreVerdicts class (before ++ method ∷ []) methods verdicts
+
+-- the body that a method is printed with, where it is
+abbrev pub body_of : Verdict → Option Body
+body_of (Prints body) = Some body
+body_of (NotYet pc) = None
+
+-- the same of each method
+abbrev pub bodies_of : List Verdict → List (Option Body)
+bodies_of verdicts = map body_of verdicts
+
+-- the line on a method, none where it is printed
+abbrev pub method_line : ClassOf → MethodOf → Verdict → List ℕ
+method_line class method (Prints body) = []
+method_line class method (NotYet pc) = line_text (report.NotYetMethod class.this_class method.name method.descriptor pc)
+
+-- the lines on methods, in file order
+abbrev pub method_lines : ClassOf → List MethodOf → List Verdict → List ℕ
+method_lines class [] verdicts = []
+method_lines class (method ∷ methods) [] = []
+method_lines class (method ∷ methods) (verdict ∷ verdicts) =
+    method_line class method verdict ++ method_lines class methods verdicts
+
+-- ---- a file
+
+-- a class is printed with exactly its straight methods: its unit is well formed, no other well formed unit has its text, and each other method has its line
+pub record PrintsClass (class : ClassOf) (piece : Piece) : Type 0 where
+  pub verdicts : List Verdict
+  pub judged : AreVerdicts class [] class.methods verdicts
+  pub unit : CompilationUnit
+  pub class_text : IsClassText class (bodies_of verdicts) unit
+  pub well_formed : IsWellFormed unit
+  pub one_reading : (other : CompilationUnit) → IsWellFormed other → unit_text other ≡ unit_text unit → other ≡ unit
+  pub text_is : piece.text ≡ file_line class.this_class ++ unit_text unit
+  pub lines_are : piece.lines ≡ method_lines class class.methods verdicts
+
+-- what a file is: a class of the first form, or another file
+pub data FileIs : Type 0 where
+  IsClass : ClassOf → FileIs
+  IsOther : FileIs
+
+-- the bytes are a class file of the first form, of this class, or of none
+abbrev pub IsFile : List ℕ → FileIs → Type 0
+IsFile bytes (IsClass class) = IsFirstForm bytes class
+IsFile bytes IsOther = (class : ClassOf) → ¬ IsFirstForm bytes class
+
+-- the piece of a file of this name: its class, or the line that nothing of it is printed yet
+abbrev pub IsFilePiece : List ℕ → FileIs → Piece → Type 0
+IsFilePiece name (IsClass class) piece = PrintsClass class piece
+IsFilePiece name IsOther piece = (piece.text ≡ []) × (piece.lines ≡ line_text (report.NotYet name))
+
+-- ---- all files
+
+-- files as names with bytes
+abbrev pub Files : Type 0
+Files = List (List ℕ × List ℕ)
+
+-- the most bytes that a file may have
+abbrev pub most_bytes : ℕ
+most_bytes = 16777216
+
+-- the contents of the files of these names, none of them too large
+pub record AreContents (held : Files) (names contents : List (List ℕ)) : Type 0 where
+  pub loaded : map (file_named held) names ≡ map Some contents
+  pub small : All (λ bytes. length bytes ≤ most_bytes) contents
+
+-- what all that is told rests on: each file of these names was loaded, and is what was found
+pub record Setting (held : Files) (names : List (List ℕ)) (found : List FileIs) : Type 0 where
+  pub contents : List (List ℕ)
+  pub are : AreContents held names contents
+  pub files : AllZip IsFile contents found
+
+-- the piece behind those of the files: today nothing
+pub record IsLastPiece (piece : Piece) : Type 0 where
+  pub no_text : piece.text ≡ []
+  pub no_line : piece.lines ≡ []
+
+-- the piece behind these: that of the next file, or behind all files the last one
+abbrev pub IsNext : List (List ℕ) → List FileIs → List Piece → Piece → Type 0
+IsNext names found before piece =
+    IsSomeAnd (slice_get names (length before)) (λ name. IsSomeAnd (slice_get found (length before)) (λ file. IsFilePiece name file piece))
+    ⊎ ((length before ≡ length names) × IsLastPiece piece)
+
+-- some first pieces, in order
+pub data AreFirst (names : List (List ℕ)) (found : List FileIs) : List Piece → Type 0 where
+  none : AreFirst names found []
+  more : (before : List Piece) (piece : Piece) → AreFirst names found before → IsNext names found before piece → AreFirst names found (before ++ piece ∷ [])
+
+-- the texts of pieces, one after another
+abbrev pub text_of : List Piece → List ℕ
+text_of pieces = flat_map (λ (piece : Piece). piece.text) pieces
+
+-- the lines of pieces, one after another
+abbrev pub lines_of : List Piece → List ℕ
+lines_of pieces = flat_map (λ (piece : Piece). piece.lines) pieces
+
+-- ---- what was told
+
+-- the text and the report grew by these pieces, and then by so much
+pub record Grew (pieces : List Piece) (text lines : List ℕ) (text_old text_new report_old report_new : Option (List ℕ)) : Type 0 where
+  pub text_taken : text_new ≡ append_known text_old (text_of pieces ++ text)
+  pub report_taken : report_new ≡ append_known report_old (lines_of pieces ++ lines)
+
+-- so many first pieces were told, whole, and nothing besides; the flag tells whether they have a line
+pub record ToldFirst (count : ℕ) (refused : Bool) (text_old text_new report_old report_new : Option (List ℕ)) (names : List (List ℕ)) (found : List FileIs) : Type 0 where
+  pub pieces : List Piece
+  pub are : AreFirst names found pieces
+  pub number : length pieces ≡ count
+  pub grew : Grew pieces [] [] text_old text_new report_old report_new
+  pub refused_is : MatchBool refused (lines_of pieces ≢ []) (lines_of pieces ≡ [])
+
+-- the pieces of all files and the last one were told; the flag tells whether there is a line
+abbrev pub ToldAll : Bool → Option (List ℕ) → Option (List ℕ) → Option (List ℕ) → Option (List ℕ) → List (List ℕ) → List FileIs → Type 0
+ToldAll refused text_old text_new report_old report_new names found =
+    ToldFirst (length names + 1) refused text_old text_new report_old report_new names found
+
+-- some first pieces were told, whole, and nothing besides
+abbrev pub ToldSome : Option (List ℕ) → Option (List ℕ) → Option (List ℕ) → Option (List ℕ) → List (List ℕ) → List FileIs → Type 0
+ToldSome text_old text_new report_old report_new names found =
+    (count : ℕ) × (refused : Bool) × ToldFirst count refused text_old text_new report_old report_new names found
+
+-- where telling a piece was cut off
+pub data Cut : Type 0 where
+  InText : Cut
+  InLines : Cut
+
+-- what was told of a piece that was cut off: a prefix of its text and no line, or its text whole and a prefix of its lines
+abbrev pub Front : Cut → Piece → List ℕ → List ℕ → Type 0
+Front InText piece text lines = (count : ℕ) × (text ≡ take count piece.text) × (lines ≡ [])
+Front InLines piece text lines = (count : ℕ) × (text ≡ piece.text) × (lines ≡ take count piece.lines)
+
+-- some first pieces were told, whole, of the next one a front, and nothing besides
+pub record ToldFront (cut : Cut) (text_old text_new report_old report_new : Option (List ℕ)) (names : List (List ℕ)) (found : List FileIs) : Type 0 where
+  pub pieces : List Piece
+  pub are : AreFirst names found pieces
+  pub next : Piece
+  pub is_next : IsNext names found pieces next
+  pub text : List ℕ
+  pub lines : List ℕ
+  pub front : Front cut next text lines
+  pub grew : Grew pieces text lines text_old text_new report_old report_new
+
+-- so much was told of some files, which are those of these names where the files tell what they hold
+pub record OfFiles (held : Option Files) (names : List (List ℕ)) (Told : List (List ℕ) → List FileIs → Type 0) : Type 0 where
+  pub found : List FileIs
+  pub setting : IfSome held (λ files. Setting files names found)
+  pub told : Told names found
+
+-- a run that wanted memory had put nothing, or some first pieces, whole
+abbrev pub StopsForMemory : Option Files → List (List ℕ) → Option (List ℕ) → Option (List ℕ) → Option (List ℕ) → Option (List ℕ) → Type 0
+StopsForMemory held names text_old text_new report_old report_new =
+    ((text_new ≡ text_old) × (report_new ≡ report_old)) ⊎ OfFiles held names (ToldSome text_old text_new report_old report_new)
