@@ -29,6 +29,7 @@ pub record Slots (S : Type 0) : Type 0 where
 abbrev pub Locals : Type 0
 Locals = List (Option Value)
 
+-- locals, read and written by slot
 abbrev pub local_slots : Slots Locals
 local_slots = record { read = λ locals slot. slice_index_or locals slot None; write = λ slot value locals. slice_set locals slot (Some value) }
 

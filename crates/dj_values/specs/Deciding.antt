@@ -25,10 +25,11 @@ abbrev pub is_some_and : {A : Type 0} → Option A → (A → Bool) → Bool
 is_some_and None test = false
 is_some_and (Some value) test = test value
 
--- a class or interface, or an array
+-- an array
 abbrev pub is_array : JType → Bool
 is_array type = is_some (element_of type)
 
+-- a class or interface, or an array (JLS 4.3)
 abbrev pub is_reference : JType → Bool
 is_reference type = is_some (class_of type) || is_array type
 
