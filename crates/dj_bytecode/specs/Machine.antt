@@ -1,12 +1,12 @@
 -- The machine: what an instruction does, and what a bounded run of a method's code comes to (JVMS 2.6, 2.10, 2.11, 6.5).
-use Rattle.std.specs.Prelude.{ℕ, zero, suc, ◌-◌, ◌==◌, ◌&&◌, nat_le, nat_lt, Bool, true, false, if◌then◌else◌, ℤ, pos, length, replicate, List, [], ◌∷◌, ◌++◌, Option, Some, None, slice_index_or, slice_set}
-use Rattle.std.specs.Int.{w8, w16, w32, cast_signed, cast_unsigned, int_bit_and, int_wrapping_add, int_wrapping_sub, int_wrapping_mul}
+use Rattle.std.specs.Prelude.{ℕ, zero, suc, ◌-◌, ◌&&◌, nat_le, nat_lt, Bool, true, false, if◌then◌else◌, ℤ, pos, length, replicate, List, [], ◌∷◌, ◌++◌, Option, Some, None, slice_index_or, slice_set}
+use Rattle.std.specs.Int.{w8, w16, w32, int_bit_and, int_rem_euclid, int_wrap, int_wrapping_add, int_wrapping_sub, int_wrapping_mul}
 use Rattle.dj_names.specs.declared.header.Header.{Header}
 use Rattle.dj_names.specs.Types as types
 use Rattle.dj_names.specs.Types.{JType, Boolean, Byte, Char, Short, Float, Double, Class, Array, result_of, view_descriptor}
 use Rattle.dj_values.specs.Values.{RefValue, Value, Int, Long, Null, Ref, Answer, Show}
 use Rattle.dj_values.specs.Answers.{is_subclass}
-use Rattle.dj_values.specs.Outcomes.{Stop, Throws, More, Stuck, Reply, Gives, Halts, there, then_on, State, Outcome, Is, Stops, bind, outside, opening, shown}
+use Rattle.dj_values.specs.Outcomes.{Throws, More, Stuck, Reply, Gives, Halts, there, then_on, State, Outcome, Is, Stops, bind, outside, opening, shown}
 use Rattle.dj_code.specs.declared.code.Kind.{Kind}
 use Rattle.dj_code.specs.declared.code.Kind.TheVariants as kind
 use Rattle.dj_code.specs.declared.code.Calc.{Calc}
@@ -99,10 +99,10 @@ strict count operation stack = taken count [] stack (λ operands below. then_on 
 
 -- an int that a method returns: a narrower result keeps its low bits, a boolean the lowest (JVMS 6.5, `ireturn`)
 abbrev pub narrowed : JType → ℤ → Reply Value
-narrowed Boolean number = Gives (Int (int_bit_and number (pos 1)))
-narrowed Byte number = Gives (Int (cast_signed w8 (cast_unsigned w8 number)))
-narrowed Char number = Gives (Int (pos (cast_unsigned w16 number)))
-narrowed Short number = Gives (Int (cast_signed w16 (cast_unsigned w16 number)))
+narrowed Boolean number = Gives (Int (int_bit_and w32 number (pos 1)))
+narrowed Byte number = Gives (Int (int_wrap w8 number))
+narrowed Char number = Gives (Int (int_rem_euclid number (pos 65536)))
+narrowed Short number = Gives (Int (int_wrap w16 number))
 narrowed types.Int number = Gives (Int number)
 narrowed types.Long number = Halts Stuck
 narrowed Float number = Halts Stuck

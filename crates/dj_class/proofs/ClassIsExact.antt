@@ -15,11 +15,10 @@ use Rattle.dj_layout.proofs.PartsAreExact.{exact-number, exact-run, exact-exactl
 use Rattle.dj_class.specs.declared.class.raw.BrokenKind.{BrokenKind}
 use Rattle.dj_class.specs.declared.class.raw.BrokenKind.TheVariants as kind
 use Rattle.dj_class.specs.declared.class.raw.Entry.TheVariants as entry_variants
-use Rattle.dj_class.specs.CodeContent.{handler, code, content}
-use Rattle.dj_class.specs.ClassFile.{IsUnit, units, text, u2, counted, units_of, name_of, entry, entry_of, pool, sized, attribute, member, major, front, own, lists, lists_of, raw_of, magic, body, file}
+use Rattle.dj_class.specs.ClassFile.{IsPlainUnit, units, text, u2, counted, units_of, name_of, entry, entry_of, pool, sized, attribute, member, major, front, own, lists, lists_of, raw_of, magic, body, file}
 
 -- the wrong byte of a list that begins with units lies behind them
-unit_or_wrong : (xs before : List ℕ) (rest : List ℕ) (wrong : ℕ) (others : List ℕ) → AllByRecursion IsUnit xs → xs ++ rest ≡ before ++ wrong ∷ others → ¬ IsUnit wrong → length xs ≤ length before
+unit_or_wrong : (xs before : List ℕ) (rest : List ℕ) (wrong : ℕ) (others : List ℕ) → AllByRecursion IsPlainUnit xs → xs ++ rest ≡ before ++ wrong ∷ others → ¬ IsPlainUnit wrong → length xs ≤ length before
 unit_or_wrong [] before rest wrong others fit e bad = omega arith
 unit_or_wrong (x ∷ xs) [] rest wrong others fit e bad =
     let same : x ≡ wrong = cc in
@@ -30,7 +29,7 @@ unit_or_wrong (x ∷ xs) (b ∷ before) rest wrong others fit e bad =
     omega arith
 
 -- two lists that begin with units up to a wrong byte are split at one place
-one_wrong : (xs ys : List ℕ) (a b : ℕ) (r s : List ℕ) → AllByRecursion IsUnit xs → AllByRecursion IsUnit ys → ¬ IsUnit a → ¬ IsUnit b → xs ++ a ∷ r ≡ ys ++ b ∷ s → length (a ∷ r) ≡ length (b ∷ s)
+one_wrong : (xs ys : List ℕ) (a b : ℕ) (r s : List ℕ) → AllByRecursion IsPlainUnit xs → AllByRecursion IsPlainUnit ys → ¬ IsPlainUnit a → ¬ IsPlainUnit b → xs ++ a ∷ r ≡ ys ++ b ∷ s → length (a ∷ r) ≡ length (b ∷ s)
 one_wrong xs ys a b r s xs_fit ys_fit a_bad b_bad e =
     let le = unit_or_wrong xs ys (a ∷ r) b s xs_fit e b_bad in
     let ge = unit_or_wrong ys xs (b ∷ s) a r ys_fit (sym e) a_bad in
@@ -45,14 +44,14 @@ units_unique n x y r s x_len y_len e = (
 units_apart : (n end : ℕ) (x rest : List ℕ) (fault : Fault BrokenKind) → (units n).Fits x → (units n).Halts end (x ++ rest) fault → ⊥
 units_apart n end x rest fault fits (inl short) = omega (arith, short.0, fits.0, length-append x rest)
 units_apart n end x rest fault fits (inr w) =
-    omega (arith, fits.0, w.among, unit_or_wrong x w.before rest w.wrong w.others (recursion_from_All IsUnit x fits.1) w.text w.no_unit)
+    omega (arith, fits.0, w.among, unit_or_wrong x w.before rest w.wrong w.others (recursion_from_All IsPlainUnit x fits.1) w.text w.no_unit)
 
 units_one_fault : (n end : ℕ) (bytes : List ℕ) (f g : Fault BrokenKind) → (units n).Halts end bytes f → (units n).Halts end bytes g → f ≡ g
 units_one_fault n end bytes f g (inl p) (inl q) = p.1 ∙ sym q.1
 units_one_fault n end bytes f g (inl p) (inr w) = absurd (omega (arith, p.0, w.all_there))
 units_one_fault n end bytes f g (inr w) (inl q) = absurd (omega (arith, q.0, w.all_there))
 units_one_fault n end bytes f g (inr v) (inr w) =
-    let len = one_wrong v.before w.before v.wrong w.wrong v.others w.others (recursion_from_All IsUnit v.before v.units_before) (recursion_from_All IsUnit w.before w.units_before) v.no_unit w.no_unit (sym v.text ∙ w.text) in
+    let len = one_wrong v.before w.before v.wrong w.wrong v.others w.others (recursion_from_All IsPlainUnit v.before v.units_before) (recursion_from_All IsPlainUnit w.before w.units_before) v.no_unit w.no_unit (sym v.text ∙ w.text) in
     v.fault_is ∙ ap (λ (k : ℕ). record { kind = kind.Units; offset = end - k }) len ∙ sym w.fault_is
 
 exact-units : (n : ℕ) → IsExact (units n)
@@ -62,10 +61,10 @@ exact-units n = record {
   one_fault = λ end bytes f g p q. units_one_fault n end bytes f g p q;
 }
 
-exact-u2 : IsExact u2
+pub exact-u2 : IsExact u2
 exact-u2 = exact-number 2 kind.Short
 
-exact-counted : {A : Type 0} (item : Layout BrokenKind A) → IsExact item → IsExact (counted item)
+pub exact-counted : {A : Type 0} (item : Layout BrokenKind A) → IsExact item → IsExact (counted item)
 exact-counted item exact = exact-headed _ _ _ exact-u2 (λ n. exact-times n item exact)
 
 exact-text : IsExact text
@@ -122,22 +121,6 @@ exact-magic = exact-tested _ _ _ (exact-number 4 kind.Short)
 
 pub exact-file : IsExact file
 exact-file = exact-headed _ _ _ exact-magic (λ _. exact-body)
-
--- ---- the content of a Code attribute
-
-exact-handler : IsExact handler
-exact-handler =
-    exact-headed (λ h. h.start) _ _ exact-u2 (λ start. exact-headed (λ h. h.end) _ _ exact-u2 (λ end. exact-headed (λ h. h.target) _ _ exact-u2 (λ target.
-    exact-headed (λ h. h.class) _ _ exact-u2 (λ class. exact-exactly (record { start = start; end = end; target = target; class = class })))))
-
-exact-code : IsExact code
-exact-code = exact-headed length _ _ (exact-tested _ _ _ (exact-number 4 kind.Short)) (λ n. exact-run n kind.Short)
-
-pub exact-content : IsExact content
-exact-content =
-    exact-headed (λ c. c.max_stack) _ _ exact-u2 (λ max_stack. exact-headed (λ c. c.max_locals) _ _ exact-u2 (λ max_locals. exact-headed (λ c. c.code) _ _ exact-code (λ code.
-    exact-headed (λ c. c.handlers) _ _ (exact-counted handler exact-handler) (λ handlers. exact-headed (λ c. c.attributes) _ _ exact-attributes (λ attributes.
-    exact-exactly (record { max_stack = max_stack; max_locals = max_locals; code = code; handlers = handlers; attributes = attributes }))))))
 
 -- bytes with a fault are no spelling
 pub faulty_is_no_spelling : {A : Type 0} (layout : Layout BrokenKind A) → IsExact layout → (bytes : List ℕ) (why : Stop BrokenKind) (fault : Fault BrokenKind)

@@ -7,14 +7,11 @@ use Rattle.dj_layout.specs.Layout.{Layout, Spells, fault_of}
 use Rattle.dj_layout.specs.Parts.{times}
 use Rattle.dj_layout.proofs.Loops.{times_more}
 use Rattle.dj_class.specs.declared.class.raw.Entry.{Entry}
-use Rattle.dj_class.specs.declared.class.raw.Member.{Member}
+use Rattle.dj_class.specs.declared.class.raw.RawMember.{RawMember}
 use Rattle.dj_class.specs.declared.class.raw.Lists.{Lists}
 use Rattle.dj_class.specs.declared.class.raw.BrokenKind.{BrokenKind}
 use Rattle.dj_class.specs.declared.class.raw.BrokenKind.TheVariants as kind
-use Rattle.dj_class.specs.declared.class.content.Handler.{Handler}
-use Rattle.dj_class.specs.declared.class.content.CodeContent.{CodeContent}
-use Rattle.dj_class.specs.CodeContent.{code, handler, content}
-use Rattle.dj_class.specs.ClassFile.{IsUnit, HasWrongUnit, u2, counted, entry, entries, attribute, member, lists}
+use Rattle.dj_class.specs.ClassFile.{IsPlainUnit, HasWrongUnit, u2, counted, entry, entries, attribute, member, lists}
 
 -- a list around one of its items
 around : (xs : List ℕ) (i : ℕ) → i < length xs → xs ≡ take i xs ++ get_or xs i 0 ∷ drop (i + 1) xs
@@ -27,7 +24,7 @@ from_wrong bytes text rest at split within =
 
 -- the first byte that is no unit, where n bytes are there
 pub wrong_unit_halts : (n end : ℕ) (bytes text rest : List ℕ) (at : ℕ) (fault : Fault BrokenKind) → length text ≡ n → bytes ≡ text ++ rest → at < length text
-    → All IsUnit (take at text) → ¬ IsUnit (get_or text at 0) → fault ≡ fault_of end (take (length bytes - at) (drop at bytes)) kind.Units → HasWrongUnit n end bytes fault
+    → All IsPlainUnit (take at text) → ¬ IsPlainUnit (get_or text at 0) → fault ≡ fault_of end (take (length bytes - at) (drop at bytes)) kind.Units → HasWrongUnit n end bytes fault
 wrong_unit_halts n end bytes text rest at fault len split within before wrong is = record {
   before = take at text;
   wrong = get_or text at 0;
@@ -54,12 +51,12 @@ entries_pushed n bytes rest others (y ∷ ys) pushed x so_far next is =
     rw is record { fits = (more.fits, cc (so_far.fits.1)); text = more.text }
 
 -- four parts, one after the other
-four_parts : (a b c d bytes behind_a behind_b behind_c rest : List ℕ) → bytes ≡ a ++ behind_a → behind_a ≡ b ++ behind_b → behind_b ≡ c ++ behind_c → behind_c ≡ d ++ rest
+pub four_parts : (a b c d bytes behind_a behind_b behind_c rest : List ℕ) → bytes ≡ a ++ behind_a → behind_a ≡ b ++ behind_b → behind_b ≡ c ++ behind_c → behind_c ≡ d ++ rest
     → bytes ≡ (a ++ (b ++ (c ++ (d ++ [])))) ++ rest
 four_parts a b c d bytes behind_a behind_b behind_c rest p q r s = rw (p, q, r, s) (simp (append_assoc, append-nil))
 
 -- the parts of a member are there
-pub spells_member : (bytes behind_flags behind_name behind_descriptor rest : List ℕ) (m : Member)
+pub spells_member : (bytes behind_flags behind_name behind_descriptor rest : List ℕ) (m : RawMember)
     → Spells u2 bytes m.flags behind_flags → Spells u2 behind_flags m.name behind_name → Spells u2 behind_name m.descriptor behind_descriptor
     → Spells (counted attribute) behind_descriptor m.attributes rest → Spells member bytes m rest
 spells_member bytes behind_flags behind_name behind_descriptor rest m p q r s = record {
@@ -74,26 +71,4 @@ pub spells_lists : (bytes behind_interfaces behind_fields behind_methods rest : 
 spells_lists bytes behind_interfaces behind_fields behind_methods rest l p q r s = record {
   fits = (p.fits, (q.fits, (r.fits, (s.fits, refl))));
   text = four_parts ((counted u2).spell l.interfaces) ((counted member).spell l.fields) ((counted member).spell l.methods) ((counted attribute).spell l.attributes) bytes behind_interfaces behind_fields behind_methods rest p.text q.text r.text s.text;
-}
-
--- the parts of an entry of the exception table are there
-pub spells_handler : (bytes behind_start behind_end behind_target rest : List ℕ) (h : Handler)
-    → Spells u2 bytes h.start behind_start → Spells u2 behind_start h.end behind_end → Spells u2 behind_end h.target behind_target → Spells u2 behind_target h.class rest → Spells handler bytes h rest
-spells_handler bytes behind_start behind_end behind_target rest h p q r s = record {
-  fits = (p.fits, (q.fits, (r.fits, (s.fits, refl))));
-  text = four_parts (u2.spell h.start) (u2.spell h.end) (u2.spell h.target) (u2.spell h.class) bytes behind_start behind_end behind_target rest p.text q.text r.text s.text;
-}
-
--- five parts, one after the other
-five_parts : (a b c d e bytes behind_a behind_b behind_c behind_d rest : List ℕ) → bytes ≡ a ++ behind_a → behind_a ≡ b ++ behind_b → behind_b ≡ c ++ behind_c → behind_c ≡ d ++ behind_d → behind_d ≡ e ++ rest
-    → bytes ≡ (a ++ (b ++ (c ++ (d ++ (e ++ []))))) ++ rest
-five_parts a b c d e bytes behind_a behind_b behind_c behind_d rest p q r s t = rw (p, q, r, s, t) (simp (append_assoc, append-nil))
-
--- the parts of the content of a Code attribute are there
-pub spells_content : (bytes behind_max_stack behind_max_locals behind_code behind_handlers rest : List ℕ) (c : CodeContent)
-    → Spells u2 bytes c.max_stack behind_max_stack → Spells u2 behind_max_stack c.max_locals behind_max_locals → Spells code behind_max_locals c.code behind_code
-    → Spells (counted handler) behind_code c.handlers behind_handlers → Spells (counted attribute) behind_handlers c.attributes rest → Spells content bytes c rest
-spells_content bytes behind_max_stack behind_max_locals behind_code behind_handlers rest c p q r s t = record {
-  fits = (p.fits, (q.fits, (r.fits, (s.fits, (t.fits, refl)))));
-  text = five_parts (u2.spell c.max_stack) (u2.spell c.max_locals) (code.spell c.code) ((counted handler).spell c.handlers) ((counted attribute).spell c.attributes) bytes behind_max_stack behind_max_locals behind_code behind_handlers rest p.text q.text r.text s.text t.text;
 }

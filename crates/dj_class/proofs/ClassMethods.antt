@@ -6,7 +6,7 @@ use Rattle.std.proofs.lemmas.Bool.{false≢true}
 use Rattle.std.proofs.lemmas.List.{take_more, take_all, map_push}
 use Rattle.dj_names.specs.Types.{Descriptor}
 use Rattle.dj_class.specs.declared.class.raw.Entry.{Entry}
-use Rattle.dj_class.specs.declared.class.raw.Member.{Member}
+use Rattle.dj_class.specs.declared.class.raw.RawMember.{RawMember}
 use Rattle.dj_class.specs.ResolvedClass.{MethodOf, HasOneAccess, IsWithoutBody, SpellsMethod, contents, text_at}
 use Rattle.dj_class.specs.FirstParts.{IsFirstMethod, HasParts}
 
@@ -26,14 +26,15 @@ static_body : (flags : ℕ) → (flags ≡ 0x8) ⊎ (flags ≡ 0x9) → IsWithou
 static_body flags (inl e) h = has_body (rw e at h)
 static_body flags (inr e) h = public_has_body (rw e at h)
 
--- parts are a method
-pub first_from_parts : (pool : List Entry) (member : Member) (name units code : List ℕ) (descriptor : Descriptor) → HasParts pool member name units code → SpellsMethod units descriptor
+-- parts and a descriptor are a method
+pub first_from_parts : (pool : List Entry) (member : RawMember) (name code : List ℕ) (descriptor : Descriptor) → HasParts pool member name code
+    → IsSomeAnd (text_at pool member.descriptor) (λ units. SpellsMethod units descriptor)
     → IsFirstMethod pool member (record { flags = member.flags; name = name; descriptor = descriptor; thrown = []; code = Some code })
-first_from_parts pool member name units code descriptor p spelled = record {
+first_from_parts pool member name code descriptor p spelled = record {
   described = record {
     flags = refl;
     name = p.name_at;
-    descriptor = rw p.descriptor_at spelled;
+    descriptor = spelled;
     attributes_named = p.attributes_named;
     code = p.code_is;
     thrown = rw p.no_exceptions refl;
@@ -45,46 +46,29 @@ first_from_parts pool member name units code descriptor p spelled = record {
   no_exceptions = p.no_exceptions;
 }
 
-some_and : {X : Type 0} (P : X → Type 0) (o : Option X) → IsSomeAnd o P → (x : X) × (o ≡ Some x) × P x
-some_and P None h = absurd h
-some_and P (Some x) h = (x, refl, h)
-
 some_code : (o : Option (List ℕ)) (all : List (List ℕ)) → all ≡ option_to_list o → IsSome o → (code : List ℕ) × (all ≡ code ∷ [])
 some_code None all e h = absurd (false≢true h)
 some_code (Some code) all e h = (code, e)
 
 -- a method has parts
-pub parts_of_first : (pool : List Entry) (member : Member) (method : MethodOf) → IsFirstMethod pool member method
-    → (units : List ℕ) × (code : List ℕ) × HasParts pool member method.name units code × SpellsMethod units method.descriptor
+parts_of_first : (pool : List Entry) (member : RawMember) (method : MethodOf) → IsFirstMethod pool member method → (code : List ℕ) × HasParts pool member method.name code
 parts_of_first pool member method h =
-    let d = some_and (λ (units : List ℕ). SpellsMethod units method.descriptor) (text_at pool member.descriptor) h.described.descriptor in
     let c = some_code method.code (contents pool (codes "Code") member.attributes) h.described.code h.with_code in (
-      d.0,
       c.0,
       record {
         flags = subst (λ (flags : ℕ). (flags ≡ 0x8) ⊎ (flags ≡ 0x9)) h.described.flags h.flags;
         attributes_named = h.described.attributes_named;
         no_exceptions = h.no_exceptions;
         name_at = h.described.name;
-        descriptor_at = d.1;
         code_is = c.1;
       },
-      d.2,
     )
 
 -- no method where there are no parts
-pub no_parts : (pool : List Entry) (member : Member) → ((name descriptor code : List ℕ) → HasParts pool member name descriptor code → ⊥) → (method : MethodOf) → IsFirstMethod pool member method → ⊥
+pub no_parts : (pool : List Entry) (member : RawMember) → ((name code : List ℕ) → HasParts pool member name code → ⊥) → (method : MethodOf) → IsFirstMethod pool member method → ⊥
 no_parts pool member none method first =
     let parts = parts_of_first pool member method first in
-    none method.name parts.0 parts.1 parts.2
-
--- no method where the units at hand are no descriptor
-pub no_descriptor : (pool : List Entry) (member : Member) (name units code : List ℕ) → HasParts pool member name units code → ((descriptor : Descriptor) → SpellsMethod units descriptor → ⊥)
-    → (method : MethodOf) → IsFirstMethod pool member method → ⊥
-no_descriptor pool member name units code p none method first =
-    let parts = parts_of_first pool member method first in
-    let same : parts.0 ≡ units = cc (parts.2.descriptor_at, p.descriptor_at) in
-    none method.descriptor (subst (λ (u : List ℕ). SpellsMethod u method.descriptor) same parts.3)
+    none method.name parts.0 parts.1
 
 -- ---- lists that go together item by item
 

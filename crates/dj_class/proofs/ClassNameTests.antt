@@ -1,24 +1,17 @@
 -- What tests of the segments of a name say.
-use Rattle.std.proofs.Common.{◌≡◌, ◌≢◌, ◌↔◌, ℕ, ◌<◌, ◌≤◌, Bool, true, false, cond, nat_eq, nat_lt, Some, None, position, take, subst, List, [], ◌∷◌, ◌++◌, length, get_or, IsTrue, IfOk, Result, Ok, Err, All, Contains, codes, refl, sym, ap, ◌∙◌, arith}
-use Rattle.std.specs.Bool.{MatchBool}
-use Rattle.std.specs.List.{AllByRecursion, AllWithin, HoldsAt, join_with_byte}
+use Rattle.std.proofs.Common.{◌≡◌, ◌≢◌, ◌↔◌, ℕ, ◌≤◌, Bool, false, nat_eq, take, subst, List, [], ◌∷◌, ◌++◌, length, get_or, IsTrue, IfOk, Result, Ok, Err, All, Contains, codes, refl, sym, ap, ◌∙◌, arith}
+use Rattle.std.specs.List.{AllByRecursion, join_with_byte, slice_split}
+use Rattle.std.specs.declared.alloc.AllocError.{AllocError}
 use Rattle.std.proofs.lemmas.Bool.{false≢true}
 use Rattle.std.proofs.lemmas.Bool.Decides.{nat_tests}
-use Rattle.std.proofs.lemmas.List.Elements.{All-from_all_within, recursion_from_All}
-use Rattle.std.proofs.lemmas.List.Splits.{length-slice_split, join_with_byte-slice_split, slice_split_at, slice_split_none}
-use Rattle.dj_names.specs.ClassNames.{IsUnqualifiedName, joined, IsClassName}
-use Rattle.std.specs.List.{position_or_len, before_first}
 use Rattle.std.proofs.lemmas.List.{take_all}
+use Rattle.std.proofs.lemmas.List.Elements.{recursion_from_All}
+use Rattle.std.proofs.lemmas.List.Splits.{join_with_byte-slice_split, slice_split_at, slice_split_none}
+use Rattle.dj_names.specs.ClassNames.{IsUnqualifiedName, segments, joined, IsClassName}
 use Rattle.dj_names.specs.Types.{JType, Boolean, Byte, Char, Short, Int, Long, Float, Double, Class, Array, Descriptor, Field, Method}
-use Rattle.dj_names.specs.Descriptors.{spell_type, spell_descriptor, Spells}
+use Rattle.dj_names.specs.Descriptors.{spell_type, spell_descriptor, SpellsDescriptor}
+use Rattle.dj_names.proofs.SegmentLemmas.{segments-is, some_segment}
 use Rattle.dj_class.specs.ResolvedClass.{IsArrayDescriptor}
-use Rattle.std.specs.declared.alloc.AllocError.{AllocError}
-use Rattle.dj_class.specs.FirstForm.{segments}
-
--- a test that stops at the first list without the property
-pub all_decides : (P : List ℕ → Type 0) (xs : List (List ℕ)) (r : Bool) → MatchBool r (AllWithin P xs 0 (length xs)) ((k : ℕ) × (k < length xs) × HoldsAt (λ x. ¬ P x) xs k) → IsTrue r ↔ All P xs
-all_decides P xs true h = (λ _. All-from_all_within P xs h, λ _. refl)
-all_decides P xs false h = (λ e. absurd (false≢true e), λ all. absurd (h.2 [] (all h.0 [] h.1)))
 
 joined_is : (xs : List (List ℕ)) → joined xs ≡ join_with_byte 47 xs
 joined_is [] = refl
@@ -33,41 +26,23 @@ no_slashes segment h = λ k d within. no_slash _ (h.plain k d within)
 
 segments-joined : (xs : List (List ℕ)) → xs ≢ [] → AllByRecursion IsUnqualifiedName xs → segments (joined xs) ≡ xs
 segments-joined [] some h = absurd (some refl)
-segments-joined (x ∷ []) some h = slice_split_none (λ unit. nat_eq unit 47) x (no_slashes x h.0)
+segments-joined (x ∷ []) some h = segments-is x ∙ slice_split_none (λ unit. nat_eq unit 47) x (no_slashes x h.0)
 segments-joined (x ∷ y ∷ xs) some h =
-    slice_split_at (λ unit. nat_eq unit 47) x 47 (joined (y ∷ xs)) (no_slashes x h.0) refl ∙ ap (λ (t : List (List ℕ)). x ∷ t) (segments-joined (y ∷ xs) (λ e. cc) h.1)
-
-some_segment : (name : List ℕ) → segments name ≢ []
-some_segment name e = omega (arith, length-slice_split (λ unit. nat_eq unit 47) name, ap length e)
+    segments-is (joined (x ∷ y ∷ xs)) ∙ slice_split_at (λ unit. nat_eq unit 47) x 47 (joined (y ∷ xs)) (no_slashes x h.0) refl
+    ∙ ap (λ (t : List (List ℕ)). x ∷ t) (sym (segments-is (joined (y ∷ xs))) ∙ segments-joined (y ∷ xs) (λ e. cc) h.1)
 
 pub class_name_by_segments : (name : List ℕ) → All IsUnqualifiedName (segments name) → IsClassName name
 class_name_by_segments name h = record {
   segments = segments name;
-  some_segment = some_segment name;
+  some_segment = λ e. omega (arith, some_segment name, ap length e);
   unqualified = h;
-  is_joined = joined_is (segments name) ∙ join_with_byte-slice_split 47 name;
+  is_joined = ap joined (segments-is name) ∙ joined_is (slice_split (λ unit. nat_eq unit 47) name) ∙ join_with_byte-slice_split 47 name;
 }
 
 pub segments_of_class_name : (name : List ℕ) → IsClassName name → All IsUnqualifiedName (segments name)
 segments_of_class_name name h =
     let same : segments name ≡ h.segments = ap segments (sym h.is_joined) ∙ segments-joined h.segments h.some_segment (recursion_from_All IsUnqualifiedName h.segments h.unqualified) in
     rw same h.unqualified
-
-some_at : (b : Bool) (n i : ℕ) → cond b (Some n) None ≡ Some i → n ≡ i
-some_at true n i e = cc
-some_at false n i e = absurd cc
-
-none_at : (b : Bool) (n : ℕ) → cond b (Some n) None ≡ None → b ≡ false
-none_at true n e = absurd cc
-none_at false n e = refl
-
-pub before_place : (p : ℕ → Bool) (xs : List ℕ) (i : ℕ) → position p xs ≡ Some i → take i xs ≡ before_first p xs
-before_place p xs i e = ap (λ (n : ℕ). take n xs) (sym (some_at (nat_lt (position_or_len p xs) (length xs)) (position_or_len p xs) i e))
-
-pub before_none : (p : ℕ → Bool) (xs : List ℕ) → position p xs ≡ None → xs ≡ before_first p xs
-before_none p xs e =
-    let past = none_at (nat_lt (position_or_len p xs) (length xs)) (position_or_len p xs) e in
-    sym (take_all (position_or_len p xs) xs (grind (arith, nat_tests)))
 
 -- ---- descriptors of array types
 
@@ -90,17 +65,17 @@ begins_with_bracket (Field Double) rest e = absurd (no_bracket _ rest e (λ h. o
 begins_with_bracket (Field (Class name)) rest e = absurd (no_bracket _ rest e (λ h. omega arith))
 begins_with_bracket (Field (Array element)) rest e = (element, refl)
 
-bracket_is_array : (units : List ℕ) → ((read : Descriptor) × Spells units read) → ((rest : List ℕ) × (units ≡ 91 ∷ rest)) → IsArrayDescriptor units
+bracket_is_array : (units : List ℕ) → ((read : Descriptor) × SpellsDescriptor units read) → ((rest : List ℕ) × (units ≡ 91 ∷ rest)) → IsArrayDescriptor units
 bracket_is_array units (read, spells) (rest, begins) =
     let e = begins_with_bracket read rest (spells.spelled ∙ begins) in
-    record { element = e.0; spelled = subst (λ (d : Descriptor). Spells units d) e.1 spells }
+    record { element = e.0; spelled = subst (λ (d : Descriptor). SpellsDescriptor units d) e.1 spells }
 
 -- units that don't begin with `[` are none of an array type
 pub no_array : (units : List ℕ) (begins : Bool) → begins ≡ false → IsTrue begins ↔ (rest : List ℕ) × (units ≡ 91 ∷ rest) → IsTrue false ↔ IsArrayDescriptor units
 no_array units begins is b = (λ yes. absurd (false≢true yes), λ h. absurd (false≢true (sym is ∙ b.1 (array_begins units h))))
 
 -- a descriptor that begins with `[` is one of an array type
-pub array_result : (units : List ℕ) (r : Result Bool AllocError) → ((rest : List ℕ) × (units ≡ 91 ∷ rest)) → IfOk r (λ is. IsTrue is ↔ (read : Descriptor) × Spells units read)
+pub array_result : (units : List ℕ) (r : Result Bool AllocError) → ((rest : List ℕ) × (units ≡ 91 ∷ rest)) → IfOk r (λ is. IsTrue is ↔ (read : Descriptor) × SpellsDescriptor units read)
     → IfOk r (λ is. IsTrue is ↔ IsArrayDescriptor units)
 array_result units (Ok is) begins h = (λ yes. bracket_is_array units (h.0 yes) begins, λ array. h.1 (Field (Array array.element), array.spelled))
 array_result units (Err e) begins h = tt

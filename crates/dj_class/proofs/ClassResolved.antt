@@ -5,7 +5,7 @@ use Rattle.std.proofs.lemmas.List.Elements.{recursion_from_All, All-from_recursi
 use Rattle.dj_names.specs.Headers.{Name}
 use Rattle.dj_names.specs.Assignable.{object_name}
 use Rattle.dj_class.specs.declared.class.raw.Entry.{Entry}
-use Rattle.dj_class.specs.declared.class.raw.Member.{Member}
+use Rattle.dj_class.specs.declared.class.raw.RawMember.{RawMember}
 use Rattle.dj_class.specs.declared.class.raw.RawFile.{RawFile}
 use Rattle.dj_class.specs.ResolvedClass.{MethodOf, ClassOf, HasClassFlags, IsClassAt, IsSuperclassAt, IsSoundEntry, DescribesMethod, contents}
 use Rattle.dj_class.specs.FirstParts.{IsFirstMethod, HasHead, IsFirstClass}
@@ -37,7 +37,7 @@ zip_none R [] ys h none = refl
 zip_none R (x ∷ xs) [] h none = absurd h
 zip_none R (x ∷ xs) (y ∷ ys) h none = absurd cc
 
-first_methods : (pool : List Entry) (members : List Member) (methods : List MethodOf) → AllZip (DescribesMethod pool) members methods
+first_methods : (pool : List Entry) (members : List RawMember) (methods : List MethodOf) → AllZip (DescribesMethod pool) members methods
     → AllByRecursion (λ method. (method.flags ≡ 0x8) ⊎ (method.flags ≡ 0x9)) methods → AllByRecursion (λ method. IsSome method.code) methods
     → AllByRecursion (λ member. contents pool (codes "Exceptions") member.attributes ≡ []) members → AllZip (IsFirstMethod pool) members methods
 first_methods pool [] [] h flags code exceptions = tt
@@ -50,7 +50,7 @@ first_methods pool (x ∷ xs) (y ∷ ys) h flags code exceptions =
 methods_of_first : (raw : RawFile) (class : ClassOf) → IsFirstClass raw class → AllZip (IsFirstMethod raw.pool) raw.methods class.methods
 methods_of_first raw class h =
     first_methods raw.pool raw.methods class.methods h.described.methods (recursion_from_All (λ (method : MethodOf). (method.flags ≡ 0x8) ⊎ (method.flags ≡ 0x9)) class.methods h.method_flags)
-    (recursion_from_All (λ (method : MethodOf). IsSome method.code) class.methods h.with_code) (recursion_from_All (λ (member : Member). contents raw.pool (codes "Exceptions") member.attributes ≡ []) raw.methods h.no_exceptions)
+    (recursion_from_All (λ (method : MethodOf). IsSome method.code) class.methods h.with_code) (recursion_from_All (λ (member : RawMember). contents raw.pool (codes "Exceptions") member.attributes ≡ []) raw.methods h.no_exceptions)
 
 -- and a head
 head_of_first : (raw : RawFile) (class : ClassOf) → IsFirstClass raw class → HasHead raw class.this_class object_name
@@ -72,7 +72,7 @@ head_of_first raw class h =
 pub no_head : (raw : RawFile) → ((name superclass : List ℕ) → HasHead raw name superclass → ⊥) → (class : ClassOf) → IsFirstClass raw class → ⊥
 no_head raw none class h = none class.this_class object_name (head_of_first raw class h)
 
-pub no_methods : (raw : RawFile) (pool : List Entry) (members : List Member) → pool ≡ raw.pool → members ≡ raw.methods → ((methods : List MethodOf) → AllZip (IsFirstMethod pool) members methods → ⊥) → (class : ClassOf) → IsFirstClass raw class → ⊥
+pub no_methods : (raw : RawFile) (pool : List Entry) (members : List RawMember) → pool ≡ raw.pool → members ≡ raw.methods → ((methods : List MethodOf) → AllZip (IsFirstMethod pool) members methods → ⊥) → (class : ClassOf) → IsFirstClass raw class → ⊥
 no_methods raw pool members pool_is members_is none class h = none class.methods (rw (pool_is, members_is) (methods_of_first raw class h))
 
 -- head, pool and methods are a class
@@ -100,5 +100,5 @@ first_from_head raw name superclass methods h sound each = record {
   name = h.sayable;
   method_flags = All-from_recursion (λ (method : MethodOf). (method.flags ≡ 0x8) ⊎ (method.flags ≡ 0x9)) methods (zip_right (IsFirstMethod raw.pool) (λ (method : MethodOf). (method.flags ≡ 0x8) ⊎ (method.flags ≡ 0x9)) (λ x y first. first.flags) raw.methods methods each);
   with_code = All-from_recursion (λ (method : MethodOf). IsSome method.code) methods (zip_right (IsFirstMethod raw.pool) (λ (method : MethodOf). IsSome method.code) (λ x y first. first.with_code) raw.methods methods each);
-  no_exceptions = All-from_recursion (λ (member : Member). contents raw.pool (codes "Exceptions") member.attributes ≡ []) raw.methods (zip_left (IsFirstMethod raw.pool) (λ (member : Member). contents raw.pool (codes "Exceptions") member.attributes ≡ []) (λ x y first. first.no_exceptions) raw.methods methods each);
+  no_exceptions = All-from_recursion (λ (member : RawMember). contents raw.pool (codes "Exceptions") member.attributes ≡ []) raw.methods (zip_left (IsFirstMethod raw.pool) (λ (member : RawMember). contents raw.pool (codes "Exceptions") member.attributes ≡ []) (λ x y first. first.no_exceptions) raw.methods methods each);
 }

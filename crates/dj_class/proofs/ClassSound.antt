@@ -1,17 +1,18 @@
--- What the table of a pool's names tells.
+-- What tables of a pool tell.
 use Rattle.std.proofs.Common.{◌≡◌, ◌↔◌, ℕ, zero, suc, ◌+◌, ◌<◌, List, [], ◌∷◌, ◌++◌, length, get_or, take, Bool, false, IsTrue, IsSomeAnd}
+use Rattle.std.specs.List.{AllZip}
 use Rattle.std.proofs.lemmas.Bool.{false≢true}
 use Rattle.std.proofs.lemmas.List.{take_more}
 use Rattle.std.proofs.lemmas.Slice.Zip.{all_zipped_more}
 use Rattle.dj_class.specs.declared.class.raw.Entry.{Entry}
 use Rattle.dj_class.specs.ResolvedClass.{IsClassOrArray, text_at}
-use Rattle.dj_class.specs.FirstParts.{IsNameEntry, IsNameTable}
+use Rattle.dj_class.specs.FirstParts.{IsNameTable}
 
--- the table of one more entry
-pub names_more : (pool : List Entry) (i : ℕ) (entry : Entry) (names pushed : List Bool) (named : Bool) → i < length pool → entry ≡ get_or pool i entry → IsNameTable (take i pool) names
-    → IsTrue named ↔ IsNameEntry entry → pushed ≡ names ++ named ∷ [] → IsNameTable (take (i + 1) pool) pushed
-names_more pool i entry names pushed named within is table one is_pushed =
-    rw (is_pushed, take_more pool i entry within, ← is) (all_zipped_more (λ e b. IsTrue b ↔ IsNameEntry e) (take i pool) names entry named table one)
+-- the table of one more item
+pub table_more : {A B : Type 0} (R : A → B → Type 0) (items : List A) (i : ℕ) (item : A) (table pushed : List B) (told : B) → i < length items → item ≡ get_or items i item → AllZip R (take i items) table
+    → R item told → pushed ≡ table ++ told ∷ [] → AllZip R (take (i + 1) items) pushed
+table_more R items i item table pushed told within is so_far one is_pushed =
+    rw (is_pushed, take_more items i item within, ← is) (all_zipped_more R (take i items) table item told so_far one)
 
 -- the table at an index tells whether a Class entry may lead there
 pub names_tell : (pool : List Entry) (names : List Bool) (index : ℕ) → IsNameTable pool names → IsTrue (get_or names index false) ↔ IsSomeAnd (text_at pool index) IsClassOrArray

@@ -4,6 +4,7 @@ pub mod ClassContents
 pub mod ClassNameTests
 pub mod ClassMethods
 pub mod ClassSound
+pub mod ClassDescriptors
 pub mod ClassResolved
 pub mod ClassFirstForm
 pub mod ClassIsUnique

@@ -8,7 +8,7 @@ use Rattle.dj_class.specs.declared.class.raw.BrokenKind.TheVariants as kind
 use Rattle.dj_class.specs.declared.class.raw.Entry.{Entry}
 use Rattle.dj_class.specs.declared.class.raw.Entry.TheVariants as entry_variants
 use Rattle.dj_class.specs.declared.class.raw.Attribute.{Attribute}
-use Rattle.dj_class.specs.declared.class.raw.Member.{Member}
+use Rattle.dj_class.specs.declared.class.raw.RawMember.{RawMember}
 use Rattle.dj_class.specs.declared.class.raw.Lists.{Lists}
 use Rattle.dj_class.specs.declared.class.raw.RawFile.{RawFile}
 
@@ -21,8 +21,8 @@ abbrev pub counted : {A : Type 0} → Layout BrokenKind A → Layout BrokenKind 
 counted item = headed length u2 (λ n. times n item)
 
 -- a character that is one byte of a Utf8 entry (JVMS table 4.4-A)
-abbrev pub IsUnit : ℕ → Type 0
-IsUnit unit = (1 ≤ unit) × (unit ≤ 127)
+abbrev pub IsPlainUnit : ℕ → Type 0
+IsPlainUnit unit = (1 ≤ unit) × (unit ≤ 127)
 
 -- n bytes are there, and this byte among them is the first that is no unit
 pub record HasWrongUnit (n end : ℕ) (bytes : List ℕ) (fault : Fault BrokenKind) : Type 0 where
@@ -32,15 +32,15 @@ pub record HasWrongUnit (n end : ℕ) (bytes : List ℕ) (fault : Fault BrokenKi
   pub text : bytes ≡ before ++ wrong ∷ others
   pub all_there : n ≤ length bytes
   pub among : length before < n
-  pub units_before : All IsUnit before
-  pub no_unit : ¬ IsUnit wrong
+  pub units_before : All IsPlainUnit before
+  pub no_unit : ¬ IsPlainUnit wrong
   pub fault_is : fault ≡ fault_of end (wrong ∷ others) kind.Units
 
 -- n units, each in a byte (JVMS 4.4.7)
 abbrev pub units : ℕ → Layout BrokenKind (List ℕ)
 units n = record {
   spell = λ x. x;
-  Fits = λ x. (length x ≡ n) × All IsUnit x;
+  Fits = λ x. (length x ≡ n) × All IsPlainUnit x;
   Halts = λ end bytes fault. IsShort n kind.Short end bytes fault ⊎ HasWrongUnit n end bytes fault;
 }
 
@@ -98,7 +98,7 @@ attribute =
     exactly (record { name = name; content = content })))
 
 -- a field or a method (JVMS 4.5, 4.6)
-abbrev pub member : Layout BrokenKind Member
+abbrev pub member : Layout BrokenKind RawMember
 member =
     headed (λ m. m.flags) u2 (λ flags.
     headed (λ m. m.name) u2 (λ name.

@@ -1,10 +1,8 @@
 -- Class files of the first form: a class without fields, of static methods with code, whose name can be printed.
-use Rattle.std.specs.Prelude.{◌≡◌, ◌⊎◌, ℕ, List, [], ◌∷◌, map, ◌==◌, Some, IsSome, All, Contains, codes}
-use Rattle.std.specs.List.{slice_split, before_first}
+use Rattle.std.specs.Prelude.{◌≡◌, ◌⊎◌, ℕ, List, [], map, Some, IsSome, All, codes}
 use Rattle.dj_names.specs.declared.members.Field as code_field
 use Rattle.dj_names.specs.Types.{view_type, view_descriptor}
-use Rattle.dj_names.specs.Headers.{Name}
-use Rattle.dj_names.specs.Identifiers.{IsDigit, IsIdentifier}
+use Rattle.dj_names.specs.Sayable.{IsSayable}
 use Rattle.dj_names.specs.Assignable.{object_name}
 use Rattle.dj_class.specs.declared.class.ClassFile as code_class
 use Rattle.dj_class.specs.declared.class.Method as code_method
@@ -37,21 +35,6 @@ view_class class = record {
   fields = map view_field class.fields;
   methods = map view_method class.methods;
 }
-
--- the parts of a class's name between `/`
-abbrev pub segments : Name → List (List ℕ)
-segments name = slice_split (λ unit. unit == 47) name
-
--- `p`, `v`, `e` or `s`, and then one or more digits: as printed variables are spelled
-abbrev pub IsVariableLike : List ℕ → Type 0
-IsVariableLike [] = ⊥
-IsVariableLike (letter ∷ []) = ⊥
-IsVariableLike (letter ∷ digit ∷ digits) = Contains (codes "pves") letter × IsDigit digit × All IsDigit digits
-
--- a name that Java source can say, whatever variables there are
-pub record IsSayable (name : Name) : Type 0 where
-  pub identifiers : All IsIdentifier (segments name)
-  pub begins_plainly : ¬ IsVariableLike (before_first (λ unit. unit == 47) name)
 
 -- the bytes are a class file of the first form, and this is its class
 pub record IsFirstForm (bytes : List ℕ) (class : ClassOf) : Type 0 where

@@ -1,28 +1,29 @@
 -- What the functions that resolve a class of the first form promise each other.
-use Rattle.std.specs.Prelude.{◌≡◌, ◌⊎◌, ◌↔◌, ℕ, List, [], ◌∷◌, Some, IsSome, IsSomeAnd, All, Bool, IsTrue, codes}
+use Rattle.std.specs.Prelude.{◌≡◌, ◌⊎◌, ◌↔◌, ℕ, List, [], ◌∷◌, Option, Some, None, IsSome, IsSomeAnd, All, Bool, IsTrue, codes}
 use Rattle.std.specs.List.{AllZip}
 use Rattle.dj_class.specs.declared.class.raw.Entry.{Entry}
-use Rattle.dj_class.specs.declared.class.raw.Member.{Member}
+use Rattle.dj_class.specs.declared.class.raw.RawMember.{RawMember}
+use Rattle.dj_names.specs.declared.descriptor.Descriptor as code_descriptor
+use Rattle.dj_names.specs.Types.{Descriptor, view_descriptor}
 use Rattle.dj_names.specs.ClassNames.{IsClassName}
+use Rattle.dj_names.specs.Sayable.{IsSayable}
 use Rattle.dj_names.specs.Assignable.{object_name}
 use Rattle.dj_class.specs.declared.class.raw.RawFile.{RawFile}
-use Rattle.dj_class.specs.ResolvedClass.{MethodOf, ClassOf, AreNamed, DescribesMethod, Describes, IsClassOrArray, contents, units_at, text_at, class_at}
-use Rattle.dj_class.specs.FirstForm.{IsSayable}
+use Rattle.dj_class.specs.ResolvedClass.{MethodOf, ClassOf, AreNamed, SpellsMethod, DescribesMethod, Describes, IsClassOrArray, contents, units_at, text_at, class_at}
 
 -- a method that a class of the first form may have
-pub record IsFirstMethod (pool : List Entry) (member : Member) (method : MethodOf) : Type 0 where
+pub record IsFirstMethod (pool : List Entry) (member : RawMember) (method : MethodOf) : Type 0 where
   pub described : DescribesMethod pool member method
   pub flags : (method.flags ≡ 0x8) ⊎ (method.flags ≡ 0x9)
   pub with_code : IsSome method.code
   pub no_exceptions : contents pool (codes "Exceptions") member.attributes ≡ []
 
--- what can be told of such a method without reading its descriptor
-pub record HasParts (pool : List Entry) (member : Member) (name descriptor code : List ℕ) : Type 0 where
+-- what can be told of such a method without its descriptor
+pub record HasParts (pool : List Entry) (member : RawMember) (name code : List ℕ) : Type 0 where
   pub flags : (member.flags ≡ 0x8) ⊎ (member.flags ≡ 0x9)
   pub attributes_named : AreNamed pool member.attributes
   pub no_exceptions : contents pool (codes "Exceptions") member.attributes ≡ []
   pub name_at : text_at pool member.name ≡ Some name
-  pub descriptor_at : text_at pool member.descriptor ≡ Some descriptor
   pub code_is : contents pool (codes "Code") member.attributes ≡ code ∷ []
 
 -- what can be told of a class of the first form without its entries and its methods
@@ -57,3 +58,12 @@ IsNameEntry entry = IsSomeAnd (units_at entry) IsClassOrArray
 -- the table tells of each entry of the pool whether a Class entry may lead to it
 abbrev pub IsNameTable : List Entry → List Bool → Type 0
 IsNameTable pool names = AllZip (λ entry named. IsTrue named ↔ IsNameEntry entry) pool names
+
+-- what is kept of these characters, where there are any: the method descriptor that they spell, or None where they spell none
+abbrev pub IsReading : Option (List ℕ) → Option code_descriptor.Descriptor → Type 0
+IsReading units None = (descriptor : Descriptor) → IsSomeAnd units (λ these. SpellsMethod these descriptor) → ⊥
+IsReading units (Some read) = IsSomeAnd units (λ these. SpellsMethod these (view_descriptor read))
+
+-- the table has of each entry of the pool the method descriptor that it spells
+abbrev pub IsDescriptorTable : List Entry → List (Option code_descriptor.Descriptor) → Type 0
+IsDescriptorTable pool table = AllZip (λ entry read. IsReading (units_at entry) read) pool table

@@ -1,6 +1,5 @@
 -- What the public contracts rest on, in reading order.
 pub mod ClassFile
-pub mod CodeContent
 pub mod ResolvedClass
 pub mod FirstForm
 -- What the crate keeps to itself.

@@ -9,11 +9,11 @@ use Rattle.dj_names.specs.Headers.{Name}
 use Rattle.dj_names.specs.Types.{JType, Array, Descriptor, Field, Method}
 use Rattle.dj_names.specs.Assignable.{object_name}
 use Rattle.dj_names.specs.ClassNames.{IsClassName}
-use Rattle.dj_names.specs.Descriptors.{Spells}
+use Rattle.dj_names.specs.Descriptors.{SpellsDescriptor}
 use Rattle.dj_class.specs.declared.class.raw.Entry.{Entry}
 use Rattle.dj_class.specs.declared.class.raw.Entry.TheVariants as entry
 use Rattle.dj_class.specs.declared.class.raw.Attribute.{Attribute}
-use Rattle.dj_class.specs.declared.class.raw.Member.{Member}
+use Rattle.dj_class.specs.declared.class.raw.RawMember.{RawMember}
 use Rattle.dj_class.specs.declared.class.raw.RawFile.{RawFile}
 use Rattle.dj_class.specs.ClassFile.{u2, counted, file}
 
@@ -71,7 +71,7 @@ IsClassAt pool index name = (class_at pool index ≡ Some name) × IsClassName n
 -- the descriptor of an array type (JVMS 4.3.2)
 pub record IsArrayDescriptor (units : List ℕ) : Type 0 where
   pub element : JType
-  pub spelled : Spells units (Field (Array element))
+  pub spelled : SpellsDescriptor units (Field (Array element))
 
 -- what a Class entry may lead to (JVMS 4.4.1)
 abbrev pub IsClassOrArray : List ℕ → Type 0
@@ -120,11 +120,11 @@ IsMethodDescriptor (Method parameters result) = ⊤
 
 -- the characters spell a descriptor of a method, this one
 pub record SpellsMethod (units : List ℕ) (descriptor : Descriptor) : Type 0 where
-  pub spells : Spells units descriptor
+  pub spells : SpellsDescriptor units descriptor
   pub of_method : IsMethodDescriptor descriptor
 
 -- the method that a method_info describes (JVMS 4.6, 4.7.3, 4.7.5)
-pub record DescribesMethod (pool : List Entry) (member : Member) (method : MethodOf) : Type 0 where
+pub record DescribesMethod (pool : List Entry) (member : RawMember) (method : MethodOf) : Type 0 where
   pub flags : method.flags ≡ member.flags
   pub name : text_at pool member.name ≡ Some method.name
   pub descriptor : IsSomeAnd (text_at pool member.descriptor) (λ units. SpellsMethod units method.descriptor)

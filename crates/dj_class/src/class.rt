@@ -1,6 +1,6 @@
 //! Class files (JVMS 4): what they are, and the reader of those of the first form.
 
-mod content;
+mod descriptors;
 mod methods;
 mod names;
 mod pool;
@@ -8,16 +8,15 @@ mod raw;
 mod resolve;
 mod sound;
 
-ghost use Rattle.std.specs.Prelude.{IfOk, IfSome, IfNone};
+ghost use Rattle.std.specs.Prelude.{◌≡◌, IfOk, IfSome, IfNone};
 ghost use Rattle.dj_class.specs.ResolvedClass as spec;
 ghost use Rattle.dj_class.specs.FirstForm.{IsFirstForm, view_class};
 
-pub use content::{CodeContent, Handler, read_content};
 use dj_layout::Stop;
 use dj_names::{ClassName, Descriptor, Field, Items, Units};
 pub use pool::has_attribute;
 use raw::read_raw;
-pub use raw::{Attribute, Entry};
+pub use raw::{Attribute, BrokenKind, Entry, attributes_at};
 use resolve::class_of;
 use std::alloc::{AllocError, Global};
 
@@ -50,6 +49,7 @@ pub struct ClassFile {
 pub fn read_class(alloc: Global, bytes: &[u8]) -> Result<Option<ClassFile>, AllocError>
     ensures read { IfOk result (λ found. IfSome found (λ class. IsFirstForm bytes.now (view_class class))) }
     ensures absent { IfOk result (λ found. IfNone found ((class : spec.ClassOf) → ¬ IsFirstForm bytes.now class)) }
+    ensures one { (a b : spec.ClassOf) → IsFirstForm bytes.now a → IsFirstForm bytes.now b → a ≡ b }
 {
     match read_raw(alloc, bytes) {
         Ok(raw) => class_of(alloc, raw),

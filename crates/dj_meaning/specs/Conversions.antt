@@ -1,6 +1,6 @@
 -- What becomes of a value where a type is wanted: assignment, return and call (JLS 5.1.2, 5.1.3, 5.2, 5.3).
 use Rattle.std.specs.Prelude.{ℤ, pos}
-use Rattle.std.specs.Int.{w8, w16, w32, cast_signed, cast_unsigned, int_bit_and}
+use Rattle.std.specs.Int.{w8, w16, w32, int_bit_and, int_rem_euclid, int_wrap}
 use Rattle.dj_names.specs.Types.{JType, Boolean, Byte, Char, Short, Float, Double, Class, Array}
 use Rattle.dj_names.specs.Types as types
 use Rattle.dj_values.specs.Values.{Value, Int, Long, Null, Ref}
@@ -9,10 +9,10 @@ use Rattle.dj_values.specs.Outcomes.{More, Stuck, Reply, Gives, Halts}
 -- an int where a type is wanted: a narrower one keeps its low bits, a boolean the lowest, a long is as great;
 -- what would be a float or double is not followed further
 abbrev pub converted_int : JType → ℤ → Reply Value
-converted_int Boolean number = Gives (Int (int_bit_and number (pos 1)))
-converted_int Byte number = Gives (Int (cast_signed w8 (cast_unsigned w8 number)))
-converted_int Char number = Gives (Int (pos (cast_unsigned w16 number)))
-converted_int Short number = Gives (Int (cast_signed w16 (cast_unsigned w16 number)))
+converted_int Boolean number = Gives (Int (int_bit_and w32 number (pos 1)))
+converted_int Byte number = Gives (Int (int_wrap w8 number))
+converted_int Char number = Gives (Int (int_rem_euclid number (pos 65536)))
+converted_int Short number = Gives (Int (int_wrap w16 number))
 converted_int types.Int number = Gives (Int number)
 converted_int types.Long number = Gives (Long number)
 converted_int Float number = Halts More

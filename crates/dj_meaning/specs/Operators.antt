@@ -126,16 +126,20 @@ with_truth (Ref reference) next = Halts Stuck
 abbrev pub truth_of : Value → Reply Bool
 truth_of value = with_truth value Gives
 
--- an operator between what gives its operands: the left one first (JLS 15.7)
+-- the right operand is wanted after this answer of the left one
+abbrev pub is_wanted : Bool → Bool → Bool
+is_wanted true answer = answer
+is_wanted false answer = not answer
+
+-- an operator of this form between what gives its operands: the left one first (JLS 15.7)
+abbrev pub by_form : {S : Type 0} → List Header → Operator → (State S → Outcome S Value) → (State S → Outcome S Value) → State S → Outcome S Value
+by_form headers (Strict operation) left right state =
+    bind (left state) (λ x behind. bind (right behind) (λ y. outside headers (operation x y)))
+by_form headers (After wanted) left right state =
+    bind (bind (left state) (λ x. outside headers (truth_of x))) (λ answer behind.
+    if is_wanted wanted answer then bind (bind (right behind) (λ y. outside headers (truth_of y))) (λ last. Is (truth last))
+    else Is (truth answer) behind)
+
+-- an operator between what gives its operands
 abbrev pub operate : {S : Type 0} → List Header → Op → (State S → Outcome S Value) → (State S → Outcome S Value) → State S → Outcome S Value
-operate {S = S} headers operator left right state = by_form (operator_of operator)
-  where
-    is_wanted : Bool → Bool → Bool
-    is_wanted true answer = answer
-    is_wanted false answer = not answer
-    by_form : Operator → Outcome S Value
-    by_form (Strict operation) = bind (left state) (λ x behind. bind (right behind) (λ y. outside headers (operation x y)))
-    by_form (After wanted) =
-        bind (bind (left state) (λ x. outside headers (truth_of x))) (λ answer behind.
-        if is_wanted wanted answer then bind (bind (right behind) (λ y. outside headers (truth_of y))) (λ last. Is (truth last))
-        else Is (truth answer) behind)
+operate headers operator = by_form headers (operator_of operator)

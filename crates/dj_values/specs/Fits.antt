@@ -1,8 +1,9 @@
--- Which values a type has (JVMS 2.3, 2.4), by the headers of the classes there are.
-use Rattle.std.specs.Prelude.{◌≡◌, ℕ, ◌≤◌, ◌==◌, Bool, true, false, not, bit_and, codes, pos, negsuc, ◌≤ℤ◌, List, [], ◌∷◌, Option, Some, None, IsSomeAnd, ℤ}
+-- Which values a type has, what can be thrown, and what a method takes (JVMS 2.3, 2.4, 2.10), by the headers of the classes there are.
+use Rattle.std.specs.Prelude.{◌≡◌, ℕ, ◌≤◌, ◌==◌, Bool, true, false, not, bit_and, codes, pos, negsuc, ◌≤ℤ◌, List, [], ◌∷◌, Option, Some, None, IsSome, IsSomeAnd, ℤ}
 use Rattle.dj_names.specs.declared.header.Header.{Header}
 use Rattle.dj_names.specs.Types as types
 use Rattle.dj_names.specs.Types.{JType, Boolean, Byte, Char, Short, Float, Double, Class, Array, Of}
+use Rattle.dj_names.specs.Headers.{IsSubclass}
 use Rattle.dj_names.specs.Assignable.{IsReference, IsAssignable, object_name}
 use Rattle.dj_values.specs.Values.{RefValue, Value, Int, Long, Null, Ref}
 
@@ -31,6 +32,36 @@ IsLengthOf Float length = ⊥
 IsLengthOf Double length = ⊥
 IsLengthOf (Class name) length = length ≡ 0
 IsLengthOf (Array element) length = length ≤ 2147483647
+
+-- the name of a class or interface, None where the type is neither
+abbrev pub class_of : JType → Option (List ℕ)
+class_of Boolean = None
+class_of Byte = None
+class_of Char = None
+class_of Short = None
+class_of types.Int = None
+class_of types.Long = None
+class_of Float = None
+class_of Double = None
+class_of (Class name) = Some name
+class_of (Array element) = None
+
+-- the type of an array's elements, None where the type is no array's
+abbrev pub element_of : JType → Option JType
+element_of Boolean = None
+element_of Byte = None
+element_of Char = None
+element_of Short = None
+element_of types.Int = None
+element_of types.Long = None
+element_of Float = None
+element_of Double = None
+element_of (Class name) = None
+element_of (Array element) = Some element
+
+-- the type is an array's
+abbrev pub IsArray : JType → Type 0
+IsArray type = IsSome (element_of type)
 
 -- the type of the innermost elements
 abbrev pub innermost : JType → JType
@@ -66,6 +97,23 @@ AreValuesOf headers [] [] = Unit {0}
 AreValuesOf headers [] (value ∷ values) = ⊥
 AreValuesOf headers (type ∷ types) [] = ⊥
 AreValuesOf headers (type ∷ types) (value ∷ values) = IsValueOf headers type value × AreValuesOf headers types values
+
+-- ---- what can be thrown
+
+-- an object of exactly this class
+pub record IsObject (class : List ℕ) (reference : RefValue) : Type 0 where
+  pub exact : reference.class ≡ Class class
+  pub length : reference.length ≡ 0
+
+-- the class of all that can be thrown (JLS 11.1.1)
+abbrev pub throwable_name : List ℕ
+throwable_name = codes "java/lang/Throwable"
+
+-- an exception: an object whose class is Throwable, or below it by superclasses
+pub record IsThrowable (headers : List Header) (reference : RefValue) : Type 0 where
+  pub class : List ℕ
+  pub object : IsObject class reference
+  pub below : IsSubclass headers class throwable_name
 
 -- ---- what a method takes
 

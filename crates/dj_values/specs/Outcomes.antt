@@ -3,7 +3,7 @@ use Rattle.std.specs.Prelude.{◌≡◌, ℕ, if◌then◌else◌, List, [], ◌
 use Rattle.dj_names.specs.declared.header.Header.{Header}
 use Rattle.dj_values.specs.Values.{RefValue, Value, Action, Trap, Answer, Given, Done, Thrown, End, Return, Throw, Show}
 use Rattle.dj_values.specs.Values as values
-use Rattle.dj_values.specs.Answers.{is_answer}
+use Rattle.dj_values.specs.Deciding.{is_answer}
 
 -- ---- what is asked of the outside
 

@@ -1,16 +1,13 @@
-//! The names of classes that a class file may have (JVMS 4.2.1), and those that Java source can say.
+//! The names of classes and the descriptors that a class file may have (JVMS 4.2.1, 4.3).
 
-ghost use Rattle.std.specs.Prelude.{◌≡◌, ◌↔◌, ◌==◌, ℕ, List, ◌∷◌, position, All, Contains, IsTrue, IfOk, IfSome, IfNone, codes};
-ghost use Rattle.std.specs.List.{before_first};
+ghost use Rattle.std.specs.Prelude.{◌≡◌, ◌↔◌, ℕ, List, ◌∷◌, All, Contains, IsTrue, IfOk, IfSome, IfNone, codes};
 ghost use Rattle.dj_names.specs.Types as types;
 ghost use Rattle.dj_names.specs.Types.{view_descriptor};
-ghost use Rattle.dj_names.specs.Descriptors.{Spells};
-ghost use Rattle.dj_names.specs.ClassNames.{IsUnqualifiedName, IsClassName};
-ghost use Rattle.dj_names.specs.Identifiers.{IsDigit, IsIdentifier};
+ghost use Rattle.dj_names.specs.Descriptors.{SpellsDescriptor};
+ghost use Rattle.dj_names.specs.ClassNames.{IsUnqualifiedName, segments, IsClassName};
 ghost use Rattle.dj_class.specs.ResolvedClass.{IsArrayDescriptor, SpellsMethod};
-ghost use Rattle.dj_class.specs.FirstForm.{segments, IsVariableLike, IsSayable};
 
-use dj_names::{Descriptor, NameFault, Units, read_descriptor, spells_identifier};
+use dj_names::{Descriptor, NameFault, Units, read_descriptor};
 use std::alloc::{AllocError, Global};
 
 const SLASH: u16 = 0x2f;
@@ -56,65 +53,6 @@ pub fn is_class_name(name: &[u16]) -> bool
     are_unqualified(name)
 }
 
-/// Whether each segment is an identifier.
-fn are_identifiers(name: &[u16]) -> bool
-    ensures identifiers { IsTrue result ↔ All IsIdentifier (segments name.now) }
-{
-    name.split(|unit| *unit == SLASH)
-        .all(|segment| spells_identifier(segment))
-}
-
-fn is_digit(unit: u16) -> bool
-    ensures digit { IsTrue result ↔ IsDigit unit }
-{
-    matches!(unit, 0x30..=0x39)
-}
-
-/// Whether a printed variable begins with the unit.
-fn is_variable_letter(unit: u16) -> bool
-    ensures letter { IsTrue result ↔ Contains (codes "pves") unit }
-{
-    [0x70, 0x76, 0x65, 0x73].contains(&unit)
-}
-
-/// Whether the units are spelled as a printed variable is.
-fn is_variable_like(units: &[u16]) -> bool
-    ensures variable { IsTrue result ↔ IsVariableLike units.now }
-{
-    match units {
-        [letter, digit, digits @ ..] => {
-            is_variable_letter(*letter)
-                && is_digit(*digit)
-                && digits.iter().all(|unit| is_digit(*unit))
-        }
-        [] | [_] => false,
-    }
-}
-
-/// The place of the first `/`.
-fn slash_at(name: &[u16]) -> Option<usize>
-    ensures place { result ≡ position (λ unit. unit == 47) name.now }
-{
-    name.iter().position(|unit| *unit == SLASH)
-}
-
-/// The units before the first `/`, or all of them.
-fn first_segment(name: &[u16]) -> &[u16]
-    ensures first { result.now ≡ before_first (λ unit. unit == 47) name.now }
-{
-    match slash_at(name) {
-        Some(end) => &name[..end],
-        None => name,
-    }
-}
-
-/// Whether Java source can say the name, whatever variables there are.
-pub fn is_sayable(name: &[u16]) -> bool
-    ensures sayable { IsTrue result ↔ IsSayable name.now }
-{
-    are_identifiers(name) && !is_variable_like(first_segment(name))
-}
-
 /// The method descriptor that the units spell.
 pub fn method_descriptor(alloc: Global, units: &Units) -> Result<Option<Descriptor>, AllocError>
     ensures some { IfOk result (λ found. IfSome found (λ read. SpellsMethod units.now (view_descriptor read))) }
@@ -144,7 +82,7 @@ fn begins_array(units: &[u16]) -> bool
 
 /// Whether the units are a descriptor.
 fn is_descriptor(alloc: Global, units: &Units) -> Result<bool, AllocError>
-    ensures descriptor { IfOk result (λ is. IsTrue is ↔ (read : types.Descriptor) × Spells units.now read) }
+    ensures descriptor { IfOk result (λ is. IsTrue is ↔ (read : types.Descriptor) × SpellsDescriptor units.now read) }
 {
     match read_descriptor(alloc, units) {
         Ok(_) => Ok(true),

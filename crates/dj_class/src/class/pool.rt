@@ -5,7 +5,7 @@ ghost use Rattle.std.specs.Option.{option_copied};
 ghost use Rattle.dj_class.specs.ResolvedClass.{text_at, class_at, contents, AreNamed};
 
 use crate::class::raw::{Attribute, Entry};
-use dj_names::Units;
+use dj_names::{Units, is_word};
 
 /// The units of the Utf8 entry at an index.
 pub fn text_at(pool: &[Entry], index: u16) -> Option<&Units>
@@ -25,18 +25,6 @@ pub fn class_at(pool: &[Entry], index: u16) -> Option<&Units>
         Entry::Class(name) => text_at(pool, *name),
         Entry::Skip | Entry::Utf8(_) => None,
     }
-}
-
-/// Whether the units are this word.
-pub fn is_word(units: &[u16], word: &str) -> bool
-    ensures word { IsTrue result ↔ (units.now ≡ word.now) }
-{
-    let bytes = word.as_bytes();
-    units.len() == bytes.len()
-        && units
-            .iter()
-            .zip(bytes)
-            .all(|(unit, byte)| *unit == u16::from(*byte))
 }
 
 /// Whether the attribute has this name.

@@ -49,7 +49,7 @@ pub struct Attribute {
 
 /// A field or a method: indices of its name and its descriptor.
 #[derive(Debug, Drop)]
-pub struct Member {
+pub struct RawMember {
     pub flags: u16,
     pub name: u16,
     pub descriptor: u16,
@@ -66,8 +66,8 @@ pub struct RawFile {
     pub this_class: u16,
     pub super_class: u16,
     pub interfaces: Items<u16>,
-    pub fields: Items<Member>,
-    pub methods: Items<Member>,
+    pub fields: Items<RawMember>,
+    pub methods: Items<RawMember>,
     pub attributes: Items<Attribute>,
 }
 
@@ -75,8 +75,8 @@ pub struct RawFile {
 #[derive(Debug, Drop)]
 struct Lists {
     interfaces: Items<u16>,
-    fields: Items<Member>,
-    methods: Items<Member>,
+    fields: Items<RawMember>,
+    methods: Items<RawMember>,
     attributes: Items<Attribute>,
 }
 

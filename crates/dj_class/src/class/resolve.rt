@@ -7,11 +7,11 @@ ghost use Rattle.dj_class.specs.FirstParts.{HasHead, IsFirstClass};
 
 use crate::class::ClassFile;
 use crate::class::methods::methods_of;
-use crate::class::names::{is_class_name, is_sayable};
-use crate::class::pool::{are_named, class_at, is_word};
+use crate::class::names::is_class_name;
+use crate::class::pool::{are_named, class_at};
 use crate::class::raw::RawFile;
 use crate::class::sound::is_sound_pool;
-use dj_names::{ClassName, Items, Units};
+use dj_names::{ClassName, Items, Units, is_sayable, is_word};
 use std::alloc::{AllocError, Global};
 
 /// Whether the flags are those of a class that is public or isn't.

@@ -54,15 +54,3 @@ fn other_bytes_are_no_class(rt: HostRuntime) -> Result<(), Fail> {
     }
     Ok(())
 }
-
-#[test]
-fn the_content_of_code_is_read(rt: HostRuntime) -> Result<(), Fail> {
-    let content = read_content(rt.alloc(), &FILE[CONTENT..100])?.ok_or("it is laid out")?;
-    assert_eq!(rt; content.max_stack, 2);
-    assert_eq!(rt; content.max_locals, 2);
-    assert_eq!(rt; content.code.as_slice(), &[0x1au8, 0x1b, 0x64, 0xac][..]);
-    assert!(rt; content.handlers.is_empty());
-    assert!(rt; !has_attribute(&[], content.attributes.as_slice(), "StackMapTable"));
-    assert!(rt; read_content(rt.alloc(), &FILE[CONTENT..99])?.is_none());
-    Ok(())
-}

@@ -2,7 +2,7 @@
 
 ghost use Rattle.std.specs.Prelude.{◌≡◌, ◌↔◌, ◌<◌, All, length, take, slice_index, IfOk, IfSome, IfNone, IsTrue};
 ghost use Rattle.dj_layout.specs.Layout.{Reads};
-ghost use Rattle.dj_class.specs.ClassFile.{IsUnit, units, text, entry, entries, pool};
+ghost use Rattle.dj_class.specs.ClassFile.{IsPlainUnit, units, text, entry, entries, pool};
 
 use crate::class::raw::{BrokenKind, Entry};
 use dj_layout::{Stop, fault_at, run_at, u8_at, u16_at};
@@ -10,8 +10,8 @@ use dj_names::{Items, Units};
 use std::alloc::{AllocError, Global};
 
 /// Whether the byte is a unit by itself.
-fn is_unit(byte: u8) -> bool
-    ensures unit { IsTrue result ↔ IsUnit byte }
+fn is_plain_unit(byte: u8) -> bool
+    ensures unit { IsTrue result ↔ IsPlainUnit byte }
 {
     matches!(byte, 1..=127)
 }
@@ -24,16 +24,16 @@ fn widened(alloc: Global, bytes: &[u8]) -> Result<Units, AllocError>
     for byte in bytes {
         units.push(u16::from(*byte))?;
     }
-    Ok(Units::from_vec(units))
+    Units::from_vec(units)
 }
 
 /// The place of the first byte that is no unit.
 fn wrong_unit(bytes: &[u8]) -> Option<usize>
-    ensures none { IfNone result (All IsUnit bytes.now) }
-    ensures wrong { IfSome result (λ at. (at < length bytes.now) × ¬ IsUnit (slice_index bytes.now at)) }
-    ensures before { IfSome result (λ at. All IsUnit (take at bytes.now)) }
+    ensures none { IfNone result (All IsPlainUnit bytes.now) }
+    ensures wrong { IfSome result (λ at. (at < length bytes.now) × ¬ IsPlainUnit (slice_index bytes.now at)) }
+    ensures before { IfSome result (λ at. All IsPlainUnit (take at bytes.now)) }
 {
-    bytes.iter().position(|byte| !is_unit(*byte))
+    bytes.iter().position(|byte| !is_plain_unit(*byte))
 }
 
 /// `n` units.

@@ -4,7 +4,7 @@ ghost use Rattle.dj_layout.specs.Layout.{Reads};
 ghost use Rattle.dj_layout.specs.Parts.{times};
 ghost use Rattle.dj_class.specs.ClassFile.{u2, counted, attribute, member};
 
-use crate::class::raw::{Attribute, BrokenKind, Member};
+use crate::class::raw::{Attribute, BrokenKind, RawMember};
 use dj_layout::{Stop, run_at, u16_at, u32_at};
 use dj_names::Items;
 use std::alloc::Global;
@@ -56,14 +56,18 @@ pub fn attributes_at(
 }
 
 /// A field or a method.
-fn member_at(alloc: Global, bytes: &[u8], end: usize) -> Result<(Member, &[u8]), Stop<BrokenKind>>
+fn member_at(
+    alloc: Global,
+    bytes: &[u8],
+    end: usize,
+) -> Result<(RawMember, &[u8]), Stop<BrokenKind>>
     ensures reads { Reads member (λ x. (x.0, x.1.now)) end bytes.now result }
 {
     let (flags, rest) = u16_at(bytes, end, BrokenKind::Short)?;
     let (name, rest) = u16_at(rest, end, BrokenKind::Short)?;
     let (descriptor, rest) = u16_at(rest, end, BrokenKind::Short)?;
     let (attributes, rest) = attributes_at(alloc, rest, end)?;
-    let member = Member {
+    let member = RawMember {
         flags,
         name,
         descriptor,
@@ -78,7 +82,7 @@ fn member_list(
     count: u16,
     bytes: &[u8],
     end: usize,
-) -> Result<(Items<Member>, &[u8]), Stop<BrokenKind>>
+) -> Result<(Items<RawMember>, &[u8]), Stop<BrokenKind>>
     ensures reads { Reads (times count member) (λ x. (x.0, x.1.now)) end bytes.now result }
 {
     let mut found = Items::new(alloc);
@@ -96,7 +100,7 @@ pub fn members_at(
     alloc: Global,
     bytes: &[u8],
     end: usize,
-) -> Result<(Items<Member>, &[u8]), Stop<BrokenKind>>
+) -> Result<(Items<RawMember>, &[u8]), Stop<BrokenKind>>
     ensures reads { Reads (counted member) (λ x. (x.0, x.1.now)) end bytes.now result }
 {
     let (count, rest) = u16_at(bytes, end, BrokenKind::Short)?;

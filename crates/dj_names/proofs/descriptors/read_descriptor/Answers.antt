@@ -1,5 +1,6 @@
-use Rattle.std.proofs.Common.{◌-◌, length, refl}
+use Rattle.std.proofs.Common.{◌-◌, ◌∙◌, length, ap, arith}
 use Rattle.dj_names.specs.Types.{view_descriptor}
+use Rattle.dj_names.specs.Faults.{place}
 use Rattle.dj_names.proofs.DescriptorLemmas.{only_descriptor, halted}
 use Rattle.dj_names.proofs.descriptors.read_descriptor.Goals as goal
 
@@ -14,5 +15,5 @@ returns-in-Err-Here c =
     record {
       ok = tt;
       value = none.unspelled;
-      fault = (length c.args.units.now - length left, rw (c.place.ensures.place, c.len.ensures.left, c.as_slice-all.ensures.units) refl, none);
+      fault = (length c.args.units.now - length left, c.place.ensures.place ∙ ap place (omega (arith, c.len.ensures.left, ap length c.as_slice-all.ensures.units)), none);
     }

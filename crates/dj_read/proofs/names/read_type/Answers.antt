@@ -12,7 +12,7 @@ pub loop-reader-preserved : goal.loop-reader-preserved
 loop-reader-preserved c =
     elim c.if-is_at-3.branch [
       | then-is_at-3+in_ok-new w ↦
-          let is : view_type c.if-is_at-3.kind ≡ Array (view_type c.loop-reader.kind) = ap view_type w.kind-is ∙ ap (λ kind. view_type (variants.Array kind)) w.in_ok-new.ensures ∙ view-array c.loop-reader.kind in
+          let is : view_type c.if-is_at-3.kind ≡ Array (view_type c.loop-reader.kind) = ap view_type w.kind-is ∙ ap (λ kind. view_type (variants.Array kind)) w.in_ok-new.ensures.value ∙ view-array c.loop-reader.kind in
           record {
             same = ap (λ kind. more_type kind c.skip.new.self) is ∙ type_takes_brackets (view_type c.loop-reader.kind) c.loop-reader.reader c.skip.new.self w.if-is_at-3.ensures.comes c.skip.ensures.rest ∙ c.loop-reader.invariant.same;
             whole = λ _. subst IsWhole (sym is) (λ segment. refl);

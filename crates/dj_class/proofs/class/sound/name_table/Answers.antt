@@ -1,7 +1,7 @@
 use Rattle.std.proofs.Common.{◌↔◌, IsTrue}
 use Rattle.dj_class.specs.FirstParts.{IsNameEntry}
 use Rattle.dj_class.proofs.ClassMethods.{zip_taken}
-use Rattle.dj_class.proofs.ClassSound.{names_more}
+use Rattle.dj_class.proofs.ClassSound.{table_more}
 use Rattle.dj_class.proofs.class.sound.name_table.Goals as goal
 
 pub returns : goal.returns
@@ -10,4 +10,4 @@ returns c =
 
 pub loop-entry-preserved : goal.loop-entry-preserved
 loop-entry-preserved c =
-    names_more c.args.pool.now c.loop-entry.entry-index c.entry-item.result c.loop-entry.names.items c.push.new.self.items c.in_ok-named.named c.loop-entry-test.true c.entry-item.is c.loop-entry.invariant c.in_ok-named.ensures.exact c.in_ok-push.ensures.items
+    table_more (λ entry named. IsTrue named ↔ IsNameEntry entry) c.args.pool.now c.loop-entry.entry-index c.entry-item.result c.loop-entry.names.items c.push.new.self.items c.in_ok-named.named c.loop-entry-test.true c.entry-item.is c.loop-entry.invariant c.in_ok-named.ensures.exact c.in_ok-push.ensures.items

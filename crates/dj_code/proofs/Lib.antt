@@ -1,0 +1,3 @@
+pub mod ContentLayout
+pub mod ContentIsExact
+pub mod CodeLemmas

@@ -1,3 +1,0 @@
-//! Tests, by theme.
-
-mod straight;

@@ -1,0 +1,287 @@
+-- The body of a straight method shows what its code shows.
+use Rattle.std.proofs.Common.{◌≡◌, ℕ, zero, suc, ◌-◌, ◌*◌, ◌<◌, ◌≤◌, ◌==◌, true, false, not, List, [], ◌∷◌, ◌++◌, inl, length, map, replicate, Option, Some, None, refl, sym, ap, ◌∙◌, subst, arith, append_assoc}
+use Rattle.std.specs.Prelude.{ℤ, pos, slice_get, slice_index_or, bit_and}
+use Rattle.std.specs.Int.{bit_at}
+use Rattle.std.proofs.lemmas.Nat.Bits.{and_pow, bit_at_and, bit_at-lt}
+use Rattle.dj_names.specs.declared.header.Header.{Header}
+use Rattle.dj_names.specs.declared.members.ClassMembers.{ClassMembers}
+use Rattle.dj_names.specs.Types as types
+use Rattle.dj_names.specs.Types.{JType, Method, parameters_of, result_of, view_descriptor}
+use Rattle.dj_syntax.specs.declared.variable.Var.{Var}
+use Rattle.dj_syntax.specs.declared.variable.VarKind.TheVariants as variable
+use Rattle.dj_syntax.specs.Trees.{Exp, Body, Empty, And}
+use Rattle.dj_syntax.specs.Trees as trees
+use Rattle.dj_syntax.specs.UnitText.{method_bits}
+use Rattle.dj_values.specs.Values.{Value, Int, Long, Null, Ref, Answer, Show, IsBelow}
+use Rattle.dj_values.specs.Values as ends
+use Rattle.dj_values.specs.Fits.{AreValuesOf, is_static, behind_this}
+use Rattle.dj_values.specs.Outcomes.{State, Outcome, Is, bind, opening, shown}
+use Rattle.dj_class.specs.ResolvedClass.{ClassOf, MethodOf}
+use Rattle.dj_code.specs.declared.code.Kind.TheVariants as kind
+use Rattle.dj_code.specs.declared.code.Calc.{Calc}
+use Rattle.dj_code.specs.declared.code.Calc.TheVariants as calc
+use Rattle.dj_code.specs.declared.code.Constant.TheVariants as constant
+use Rattle.dj_code.specs.declared.code.Instruction.{Instruction}
+use Rattle.dj_code.specs.declared.code.Instruction.TheVariants as instruction
+use Rattle.dj_code.specs.declared.code.Code.{Code}
+use Rattle.dj_code.specs.Instructions.{Instructions}
+use Rattle.dj_code.proofs.CodeLemmas.{decoded_unique}
+use Rattle.dj_meaning.specs.Operators.{operate}
+use Rattle.dj_meaning.specs.Meaning.{Context, Scope, Store, Meaning, value, Return, run_all, ended, of_parameter, context_of, entered, source_show}
+use Rattle.dj_bytecode.specs.Machine.{Locals, local_slots, calculate, steps, slots_of, first_locals, bytecode_show}
+use Rattle.dj_bytecode.specs.SameShows.{AreArgumentsOf, SameShows}
+use Rattle.dj_bytecode.proofs.Growth.{more_shows_more}
+use Rattle.dj_straight.specs.Straight.{Formula, Number, Parameter, Calculation, operator, exp_of, postfix, UsesParameters}
+use Rattle.dj_straight.specs.StraightMethod.{IsStraightMethod, IsBodyOf, HasCode}
+
+-- ---- numbers
+
+-- the number at a place, and 0 past the end
+abbrev number_at : List ℤ → ℕ → ℤ
+number_at [] place = pos 0
+number_at (first ∷ rest) zero = first
+number_at (first ∷ rest) (suc place) = number_at rest place
+
+-- the number that a formula stands for, given the arguments
+abbrev meaning : List ℤ → Formula → ℤ
+meaning arguments (Number number) = number
+meaning arguments (Parameter slot) = number_at arguments slot
+meaning arguments (Calculation calc left right) = calculate calc (meaning arguments left) (meaning arguments right)
+
+-- ints as values
+abbrev ints : List ℤ → List Value
+ints [] = []
+ints (first ∷ rest) = Int first ∷ ints rest
+
+-- values that are all ints
+record AreInts (count : ℕ) (values : List Value) : Type 0 where
+  numbers : List ℤ
+  are : values ≡ ints numbers
+  as_many : length numbers ≡ count
+
+AreInts-cons : (count : ℕ) (number : ℤ) (values : List Value) → AreInts count values → AreInts (suc count) (Int number ∷ values)
+AreInts-cons count number values h = record { numbers = number ∷ h.numbers; are = ap (λ list. Int number ∷ list) h.are; as_many = ap suc h.as_many }
+
+AreInts-of : (headers : List Header) (count : ℕ) (values : List Value) → AreValuesOf headers (replicate count types.Int) values → AreInts count values
+AreInts-of headers zero [] h = record { numbers = []; are = refl; as_many = refl }
+AreInts-of headers zero (value ∷ values) h = absurd h
+AreInts-of headers (suc count) [] h = absurd h
+AreInts-of headers (suc count) (Int number ∷ values) h = AreInts-cons count number values (AreInts-of headers count values h.1)
+AreInts-of headers (suc count) (Long number ∷ values) h = absurd (wrong h.0.0)
+  where
+    wrong : types.Int ≡ types.Long → ⊥
+    wrong e = cc
+AreInts-of headers (suc count) (Null ∷ values) h = absurd h.0
+AreInts-of headers (suc count) (Ref reference ∷ values) h = absurd h.0.wanted
+
+-- the local of an argument, whatever locals stand behind
+slot-is : (numbers : List ℤ) (behind : Locals) (slot : ℕ) → slot < length numbers → slice_index_or (slots_of (ints numbers) ++ behind) slot None ≡ Some (Int (number_at numbers slot))
+slot-is [] behind slot within = absurd (omega arith)
+slot-is (first ∷ rest) behind zero within = refl
+slot-is (first ∷ rest) behind (suc slot) within = slot-is rest behind slot (omega arith)
+
+argument-is : (numbers : List ℤ) (slot : ℕ) → slot < length numbers → slice_get (ints numbers) slot ≡ Some (Int (number_at numbers slot))
+argument-is [] slot within = absurd (omega arith)
+argument-is (first ∷ rest) zero within = refl
+argument-is (first ∷ rest) (suc slot) within = argument-is rest slot (omega arith)
+
+type-is : (count slot : ℕ) → slot < count → slice_get (replicate count types.Int) slot ≡ Some types.Int
+type-is zero slot within = absurd (omega arith)
+type-is (suc count) zero within = refl
+type-is (suc count) (suc slot) within = type-is count slot (omega arith)
+
+-- the flags of a body say whether its method is static
+static_kept : (flags : ℕ) → is_static (bit_and flags (method_bits false)) ≡ is_static flags
+static_kept flags =
+    let same : bit_at (bit_and flags 0x053f) 3 ≡ bit_at flags 3 = omega (arith, bit_at_and flags 0x053f 3, bit_at-lt flags 3) in
+    let bits : bit_and (bit_and flags 0x053f) 0x0008 ≡ bit_and flags 0x0008 = and_pow (bit_and flags 0x053f) 3 ∙ ap (λ bit. bit * 8) same ∙ sym (and_pow flags 3) in
+    ap (λ bit. not (bit == 0)) bits
+
+-- a method has returned this number, and nothing else was seen
+abbrev returned : ℤ → Show
+returned number = record { actions = []; end = ends.Return (Some (Int number)) }
+
+-- ---- the source
+
+-- the variable of a parameter
+abbrev parameter : ℕ → Var
+parameter slot = record { kind = variable.Param; number = slot }
+
+-- parameters are ints in scope, and have these numbers
+record HasParameters (numbers : List ℤ) (scope : Scope) (state : State Store) : Type 0 where
+  typed : (slot : ℕ) → slot < length numbers → scope (parameter slot) ≡ Some types.Int
+  found : (slot : ℕ) → slot < length numbers → state.store.variables (parameter slot) ≡ Some (Int (number_at numbers slot))
+
+-- an operator on two ints
+calculates : (headers : List Header) (calc : Calc) (left right : ℤ) (first second : Meaning Value) (state : State Store) → first state ≡ Is (Int left) state → second state ≡ Is (Int right) state
+    → operate headers (operator calc) first second state ≡ Is (Int (calculate calc left right)) state
+calculates headers calc.Add left right first second state a b = rw (a, b)
+calculates headers calc.Sub left right first second state a b = rw (a, b)
+calculates headers calc.Mul left right first second state a b = rw (a, b)
+
+-- a formula has its number as its value
+value-is : (context : Context) (scope : Scope) (numbers : List ℤ) (formula : Formula) (state : State Store) → HasParameters numbers scope state → UsesParameters (length numbers) formula
+    → value context scope (exp_of formula) state ≡ Is (Int (meaning numbers formula)) state
+value-is context scope numbers (Number number) state has uses = refl
+value-is context scope numbers (Parameter slot) state has uses = rw (has.typed slot uses, has.found slot uses)
+value-is context scope numbers (Calculation calc left right) state has uses =
+    calculates context.headers calc (meaning numbers left) (meaning numbers right) (value context scope (exp_of left)) (value context scope (exp_of right)) state (value-is context scope numbers left state has uses.0) (value-is context scope numbers right state has uses.1)
+
+-- a statement that returns an int, where the method's result is int
+returns-int : (context : Context) (scope : Scope) (turns : ℕ) (exp : Exp) (number : ℤ) (state : State Store) → context.result ≡ Some types.Int → value context scope exp state ≡ Is (Int number) state
+    → run_all context scope turns (And (trees.Return (Some exp)) Empty) state ≡ Is (Return (Some (Int number))) state
+returns-int context scope turns exp number state int is = rw (is, int)
+
+source-is : (headers : List Header) (members : List ClassMembers) (numbers : List ℤ) (formula : Formula) (body : Body) (answers : List Answer) (turns : ℕ) → UsesParameters (length numbers) formula → is_static body.flags ≡ true
+    → body.descriptor ≡ Method (replicate (length numbers) types.Int) (Some types.Int) → body.statements ≡ And (trees.Return (Some (exp_of formula))) Empty
+    → source_show headers members body (ints numbers) answers turns ≡ returned (meaning numbers formula)
+source-is headers members numbers formula body answers turns uses static descriptor one =
+    let number = meaning numbers formula in
+    let context = context_of headers members body (ints numbers) in
+    let scope : Scope = of_parameter (parameters_of body.descriptor) in
+    let state = entered (behind_this (is_static body.flags) (ints numbers)) answers in
+    let int : result_of body.descriptor ≡ Some types.Int = ap result_of descriptor in
+    let has : HasParameters numbers scope state = record {
+      typed = λ slot within. ap (λ these. slice_get (parameters_of these) slot) descriptor ∙ type-is (length numbers) slot within;
+      found = λ slot within. ap (λ flag. slice_get (behind_this flag (ints numbers)) slot) static ∙ argument-is numbers slot within;
+    } in
+    let ran : run_all context scope turns body.statements state ≡ Is (Return (Some (Int number))) state =
+    ap (λ list. run_all context scope turns list state) one ∙ returns-int context scope turns (exp_of formula) number state int (value-is context scope numbers formula state has uses) in
+    ap (λ outcome. shown (bind outcome (ended (result_of body.descriptor)))) ran ∙ ap (λ result. shown (ended result (Return (Some (Int number))) state)) int
+
+-- ---- the code
+
+-- the steps that a formula's instructions take, and so many others
+abbrev with_formula : Formula → ℕ → ℕ
+with_formula (Number number) more = suc more
+with_formula (Parameter slot) more = suc more
+with_formula (Calculation calc left right) more = with_formula left (with_formula right (suc more))
+
+no_fewer : (formula : Formula) (more : ℕ) → more ≤ with_formula formula more
+no_fewer (Number number) more = omega arith
+no_fewer (Parameter slot) more = omega arith
+no_fewer (Calculation calc left right) more = omega (arith, no_fewer left (with_formula right (suc more)), no_fewer right (suc more))
+
+module _ (headers : List Header) (code : Code) (numbers : List ℤ) (state : State Locals) (loaded : (slot : ℕ) → slot < length numbers → slice_index_or state.store slot None ≡ Some (Int (number_at numbers slot))) where
+  -- so many steps from the first of these instructions on, with a stack
+  abbrev run : ℕ → Instructions → List Value → Outcome Locals (Option Value)
+  run bound rest stack = steps headers local_slots code bound rest stack state
+
+  -- these instructions lead to those, with another stack, in a number of steps that depends on how many follow
+  record Leads (rest : List Instruction) (tail : Instructions) (stack next : List Value) (bound : ℕ → ℕ) : Type 0 where
+    left : Instructions
+    spelled : map (λ i. i.1) left ≡ rest
+    ran : (more : ℕ) → run (bound more) tail stack ≡ run more left next
+
+  leads-join : (middle rest : List Instruction) (tail : Instructions) (a b c : List Value) (f g : ℕ → ℕ) → (first : Leads middle tail a b f) → Leads rest first.left b c g → Leads rest tail a c (λ more. f (g more))
+  leads-join middle rest tail a b c f g first second = record {
+    left = second.left;
+    spelled = second.spelled;
+    ran = λ more. first.ran (g more) ∙ second.ran more;
+  }
+
+  pushes : (number : ℤ) (stack : List Value) (tail : Instructions) (rest : List Instruction) → map (λ i. i.1) tail ≡ instruction.Push (constant.Int number) ∷ rest → Leads rest tail stack (Int number ∷ stack) (λ more. suc more)
+  pushes number stack [] rest is = absurd (cc)
+  pushes number stack (first ∷ tail) rest is =
+      let here : first.1 ≡ instruction.Push (constant.Int number) = cc in
+      record { left = tail; spelled = cc; ran = λ more. rw here refl }
+
+  loads : (slot : ℕ) (stack : List Value) (tail : Instructions) (rest : List Instruction) → slot < length numbers → map (λ i. i.1) tail ≡ instruction.Load kind.Int slot ∷ rest → Leads rest tail stack (Int (number_at numbers slot) ∷ stack) (λ more. suc more)
+  loads slot stack [] rest within is = absurd (cc)
+  loads slot stack (first ∷ tail) rest within is =
+      let here : first.1 ≡ instruction.Load kind.Int slot = cc in
+      let found = loaded slot within in
+      record { left = tail; spelled = cc; ran = λ more. rw (here, found) refl }
+
+  calculations : (calc : Calc) (left right : ℤ) (stack : List Value) (tail : Instructions) (rest : List Instruction) → map (λ i. i.1) tail ≡ instruction.Calc calc kind.Int ∷ rest → Leads rest tail (Int right ∷ Int left ∷ stack) (Int (calculate calc left right) ∷ stack) (λ more. suc more)
+  calculations calc left right stack [] rest is = absurd (cc)
+  calculations calc left right stack (first ∷ tail) rest is =
+      let here : first.1 ≡ instruction.Calc calc kind.Int = cc in
+      record { left = tail; spelled = cc; ran = λ more. rw here refl }
+
+  -- the code of a formula puts its number on the stack
+  leads : (formula : Formula) (stack : List Value) (tail : Instructions) (rest : List Instruction) → UsesParameters (length numbers) formula → map (λ i. i.1) tail ≡ postfix formula ++ rest → Leads rest tail stack (Int (meaning numbers formula) ∷ stack) (with_formula formula)
+  leads (Number number) stack tail rest uses is = pushes number stack tail rest is
+  leads (Parameter slot) stack tail rest uses is = loads slot stack tail rest uses is
+  leads (Calculation calc left right) stack tail rest uses is =
+      let x = meaning numbers left in
+      let y = meaning numbers right in
+      let last : List Instruction = instruction.Calc calc kind.Int ∷ rest in
+      let regroup : postfix (Calculation calc left right) ++ rest ≡ postfix left ++ (postfix right ++ last) = append_assoc (postfix left) (postfix right ++ instruction.Calc calc kind.Int ∷ []) rest ∙ ap (λ list. postfix left ++ list) (append_assoc (postfix right) (instruction.Calc calc kind.Int ∷ []) rest) in
+      let one = leads left stack tail (postfix right ++ last) uses.0 (is ∙ regroup) in
+      let two = leads right (Int x ∷ stack) one.left last uses.1 one.spelled in
+      let three = calculations calc x y stack two.left rest two.spelled in
+      leads-join (postfix right ++ last) rest tail stack (Int x ∷ stack) (Int (calculate calc x y) ∷ stack) (with_formula left) (λ more. with_formula right (suc more)) one
+      (leads-join last rest one.left (Int x ∷ stack) (Int y ∷ Int x ∷ stack) (Int (calculate calc x y) ∷ stack) (with_formula right) (λ more. suc more) two three)
+
+  -- `ireturn` ends the run
+  ends_with : (number : ℤ) (tail : Instructions) → result_of (view_descriptor code.descriptor) ≡ Some types.Int → map (λ i. i.1) tail ≡ instruction.Return (Some kind.Int) ∷ []
+      → (more : ℕ) → run (suc more) tail (Int number ∷ []) ≡ Is (Some (Int number)) state
+  ends_with number [] int is more = absurd (cc)
+  ends_with number (first ∷ rest) int is more =
+      let here : first.1 ≡ instruction.Return (Some kind.Int) = cc in rw (here, int) refl
+
+-- the code has returned a number after so many steps, not fewer than these
+record Returns (headers : List Header) (code : Code) (arguments : List Value) (answers : List Answer) (number : ℤ) (least : ℕ) : Type 0 where
+  bound : ℕ
+  enough : least ≤ bound
+  shows : bytecode_show headers code arguments answers bound ≡ returned number
+
+code-is : (headers : List Header) (code : Code) (numbers : List ℤ) (formula : Formula) (answers : List Answer) (least : ℕ) → UsesParameters (length numbers) formula → result_of (view_descriptor code.descriptor) ≡ Some types.Int
+    → map (λ i. i.1) code.instructions ≡ postfix formula ++ instruction.Return (Some kind.Int) ∷ [] → Returns headers code (ints numbers) answers (meaning numbers formula) least
+code-is headers code numbers formula answers least uses int is =
+    let behind : Locals = replicate (code.max_locals - length (slots_of (ints numbers))) None in
+    let state : State Locals = record { store = first_locals code.max_locals (ints numbers); world = opening answers } in
+    let goes = leads headers code numbers state (slot-is numbers behind) formula [] code.instructions (instruction.Return (Some kind.Int) ∷ []) uses is in
+    let ends = ends_with headers code numbers state (slot-is numbers behind) (meaning numbers formula) goes.left int goes.spelled least in
+    record { bound = with_formula formula (suc least); enough = omega (arith, no_fewer formula (suc least)); shows = ap shown (goes.ran (suc least) ∙ ends) }
+
+-- ---- both
+
+module _ (class : ClassOf) (before : List MethodOf) (method : MethodOf) (exp : Exp) (body : Body) (members : List ClassMembers) (code : Code) (straight : IsStraightMethod class before method exp) (of_method : IsBodyOf class method exp body) (of_code : HasCode class method straight.content code) where
+  -- arguments that fit are ints, one for each parameter
+  arguments-are : (headers : List Header) (arguments : List Value) → AreArgumentsOf headers code arguments → AreInts straight.parameters arguments
+  arguments-are headers arguments fit =
+      let static : is_static code.flags ≡ true = ap is_static of_code.flags ∙ straight.candidate.static in
+      let parameters : parameters_of (view_descriptor code.descriptor) ≡ replicate straight.parameters types.Int = ap parameters_of (of_code.descriptor ∙ straight.candidate.descriptor) in
+      AreInts-of headers straight.parameters arguments (rw (static, parameters) at fit)
+
+  uses : (numbers : List ℤ) → length numbers ≡ straight.parameters → UsesParameters (length numbers) straight.formula
+  uses numbers as_many = rw as_many straight.postfix.straight.slots
+
+  source_returns : (headers : List Header) (numbers : List ℤ) (answers : List Answer) (turns : ℕ) → length numbers ≡ straight.parameters → source_show headers members body (ints numbers) answers turns ≡ returned (meaning numbers straight.formula)
+  source_returns headers numbers answers turns as_many =
+      let static : is_static body.flags ≡ true = ap is_static of_method.flags ∙ static_kept method.flags ∙ straight.candidate.static in
+      let descriptor : body.descriptor ≡ Method (replicate (length numbers) types.Int) (Some types.Int) = of_method.descriptor ∙ straight.candidate.descriptor ∙ ap (λ n. Method (replicate n types.Int) (Some types.Int)) (sym as_many) in
+      let one : body.statements ≡ And (trees.Return (Some (exp_of straight.formula))) Empty = of_method.returns ∙ ap (λ value. And (trees.Return (Some value)) Empty) straight.tree in
+      source-is headers members numbers straight.formula body answers turns (uses numbers as_many) static descriptor one
+
+  code_returns : (headers : List Header) (numbers : List ℤ) (answers : List Answer) (least : ℕ) → length numbers ≡ straight.parameters → Returns headers code (ints numbers) answers (meaning numbers straight.formula) least
+  code_returns headers numbers answers least as_many =
+      let int : result_of (view_descriptor code.descriptor) ≡ Some types.Int = ap result_of (of_code.descriptor ∙ straight.candidate.descriptor) in
+      let these = decoded_unique straight.content.code straight.postfix.code code.instructions straight.postfix.decoded of_code.decoded in
+      let form : map (λ i. i.1) code.instructions ≡ postfix straight.formula ++ instruction.Return (Some kind.Int) ∷ [] = ap (λ (list : Instructions). map (λ i. i.1) list) these ∙ straight.postfix.straight.form in
+      code-is headers code numbers straight.formula answers least (uses numbers as_many) int form
+
+  forth : (headers : List Header) (numbers : List ℤ) (answers : List Answer) (bound : ℕ) → length numbers ≡ straight.parameters → (turns : ℕ) × IsBelow (bytecode_show headers code (ints numbers) answers bound) (source_show headers members body (ints numbers) answers turns)
+  forth headers numbers answers bound as_many =
+      let returns = code_returns headers numbers answers bound as_many in
+      let more = more_shows_more headers code (ints numbers) answers bound returns.bound returns.enough in
+      (0, subst (IsBelow (bytecode_show headers code (ints numbers) answers bound)) (returns.shows ∙ sym (source_returns headers numbers answers 0 as_many)) more)
+
+  back : (headers : List Header) (numbers : List ℤ) (answers : List Answer) (turns : ℕ) → length numbers ≡ straight.parameters → (bound : ℕ) × IsBelow (source_show headers members body (ints numbers) answers turns) (bytecode_show headers code (ints numbers) answers bound)
+  back headers numbers answers turns as_many =
+      let returns = code_returns headers numbers answers 0 as_many in
+      (returns.bound, inl (source_returns headers numbers answers turns as_many ∙ sym returns.shows))
+
+-- a body that returns the expression of a straight method shows what the method's code shows
+pub straight_methods_show : (class : ClassOf) (before : List MethodOf) (method : MethodOf) (exp : Exp) (body : Body) (world : List Header) (members : List ClassMembers) (code : Code)
+    → (straight : IsStraightMethod class before method exp) → IsBodyOf class method exp body → HasCode class method straight.content code → SameShows world members code body
+straight_methods_show class before method exp body world members code straight of_method of_code = record {
+  forth = λ headers may arguments fit answers bound.
+      let these = arguments-are class before method exp body members code straight of_method of_code headers arguments fit in
+      subst (λ values. (turns : ℕ) × IsBelow (bytecode_show headers code values answers bound) (source_show headers members body values answers turns)) (sym these.are) (forth class before method exp body members code straight of_method of_code headers these.numbers answers bound these.as_many);
+  back = λ headers may arguments fit answers turns.
+      let these = arguments-are class before method exp body members code straight of_method of_code headers arguments fit in
+      subst (λ values. (bound : ℕ) × IsBelow (source_show headers members body values answers turns) (bytecode_show headers code values answers bound)) (sym these.are) (back class before method exp body members code straight of_method of_code headers these.numbers answers turns these.as_many);
+}

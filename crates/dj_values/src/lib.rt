@@ -1,0 +1,10 @@
+//! Values, and what a run asks of the outside, is told, shows and comes to: the outcomes that bytecode and source share.
+//! It stands on `dj_names`: its types, its headers, and which types go where.
+//! The layers above use `tests_decide`, by which the tests that a run makes of answers decide what an answer can be, and `longer_runs_show_more`, by which a run that goes on from one that was cut shows more.
+#![tactic(auto)]
+
+mod answers;
+mod runs;
+
+pub use answers::tests_decide;
+pub use runs::longer_runs_show_more;
