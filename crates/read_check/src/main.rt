@@ -1,4 +1,4 @@
-//! Reads a text that `decompile` printed, and tells whether its unit is read back: `read`, `misread` or `no text`.
+//! Reads texts that `decompile` printed, and tells of each whether its unit is read back: `read`, `misread` or `no text`.
 //! It stands on `dj_read` for the reader, and on `dj_outer` for files.
 //! No layer stands above it: `bench/first_path` runs it on large texts.
 #![tactic(auto)]
@@ -7,9 +7,6 @@ use dj_outer::{DiskFiles, Files, Loaded};
 use dj_read::{ReadUnitFault, read_unit};
 use std::alloc::{AllocError, Global};
 use std::env;
-
-#[cfg(test)]
-mod tests;
 
 /// The most bytes that a text may have.
 const MOST_BYTES: usize = 1 << 30;
@@ -31,17 +28,21 @@ fn answer(alloc: Global, text: &[u8]) -> Result<&'static str, AllocError> {
     }
 }
 
+/// What is told of a file.
+fn told(alloc: Global, files: &mut impl Files, name: &str) -> Result<&'static str, AllocError> {
+    match files.load(alloc, name, MOST_BYTES) {
+        Ok(Loaded::Whole(text)) => answer(alloc, text.as_slice()),
+        Ok(Loaded::Over) | Err(_) => Ok("no text"),
+    }
+}
+
 fn main(rt: HostRuntime) -> anyhow::Result<()> {
     let alloc = rt.alloc();
     let words: Vec<String> = env::args(&rt)?.collect(alloc)?;
     let mut files = DiskFiles::new(&rt);
-    let told = match words.as_slice() {
-        [_, name] => match files.load(alloc, name.as_str(), MOST_BYTES) {
-            Ok(Loaded::Whole(text)) => answer(alloc, text.as_slice())?,
-            Ok(Loaded::Over) | Err(_) => "no text",
-        },
-        _ => "no text",
-    };
-    println!(rt; "{told}")?;
+    for name in words.iter().skip(1) {
+        let line = told(alloc, &mut files, name.as_str())?;
+        println!(rt; "{line}")?;
+    }
     Ok(())
 }

@@ -1,0 +1,3 @@
+// C.java
+class C {
+}
