@@ -79,7 +79,7 @@ module _ (names : List (List ℕ)) (found : List FileIs) where
       are = more told.pieces piece told.are next;
       number = length_push told.pieces piece ∙ ap (λ n. n + 1) told.number;
       grew = grew-push told.pieces piece text_old text_new report_old report_new
-      (grew-by told.pieces piece.text piece.lines text_old text_mid text_new report_old report_mid report_new told.grew text_taken report_taken);
+          (grew-by told.pieces piece.text piece.lines text_old text_mid text_new report_old report_mid report_new told.grew text_taken report_taken);
       refused_is = rw (lines-push told.pieces piece) (refused_either refused one (lines_of told.pieces) piece.lines told.refused_is refused_is);
     }
 

@@ -89,10 +89,7 @@ pub fn load_files<F: Files>(
 }
 
 /// What each file is: a class of the first form, or another file.
-pub fn read_files(
-    alloc: Global,
-    contents: &[Vec<u8>],
-) -> Result<Vec<Option<ClassFile>>, AllocError>
+pub fn read_files(alloc: Global, contents: &[Vec<u8>]) -> Result<Vec<Option<ClassFile>>, AllocError>
     ensures read { IfOk result (λ found. AllZip IsFile (contents_of contents.now) (all_found found.items)) }
 {
     let mut found = Vec::new(alloc);

@@ -7,9 +7,8 @@ ghost use Rattle.arrayvec.specs.ArrayVec.{array_vec_len};
 ghost use Rattle.dj_names.specs.Shown.{show_unit, show_units};
 ghost use Rattle.dj_outer.specs.Sink.{Puts};
 
-pub use descriptors::put_descriptor;
-
 use arrayvec::ArrayVec;
+pub use descriptors::put_descriptor;
 use dj_names::{hex_digit, is_shown_plain};
 use dj_outer::{Failed, Sink};
 

@@ -50,11 +50,7 @@ fn put_text<T: Sink>(text: &mut T, piece: &ClassPiece) -> Result<(), Failed>
 }
 
 /// Puts lines on methods of a class.
-fn put_lines<P: Sink>(
-    report: &mut P,
-    class: &ClassName,
-    lines: &[MethodLine],
-) -> Result<(), Failed>
+fn put_lines<P: Sink>(report: &mut P, class: &ClassName, lines: &[MethodLine]) -> Result<(), Failed>
     ensures puts { Puts result (P.taken report.old) (P.taken report.new) (P.faults report.old) (P.faults report.new) (lines_bytes class.now lines.now) }
 {
     for line in lines {

@@ -13,5 +13,5 @@ returns-in_err-put_method_line g c =
     let class = c.args.class.now in
     record {
       puts = puts-as (parts-at (line_bytes class) lines i c.line-item.result inside c.line-item.is)
-      (puts-stop (err_from_is_err_and c.from_residual.result c.from_residual.ensures.1).1 (lines_bytes class (drop (i + 1) lines)) (puts-then c.loop-line.invariant (rw c.as_str.ensures.value at c.in_err-put_method_line.ensures.puts)));
+          (puts-stop (err_from_is_err_and c.from_residual.result c.from_residual.ensures.1).1 (lines_bytes class (drop (i + 1) lines)) (puts-then c.loop-line.invariant (rw c.as_str.ensures.value at c.in_err-put_method_line.ensures.puts)));
     }

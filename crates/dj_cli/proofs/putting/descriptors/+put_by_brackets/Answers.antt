@@ -12,7 +12,7 @@ returns-in_err-put_piece-in-Array g t c =
     let is : view_type c.args.kind.now ≡ Array (view_type c.in-Array.element) = ap view_type c.in-Array.is ∙ view-array c.in-Array.element in
     record {
       puts = puts-as (ap (λ kind. show_units (spell_type kind)) (sym is))
-      (puts-stop (err_from_is_err_and c.from_residual.result c.from_residual.ensures.1).1 (show_units (spell_type (view_type c.in-Array.element))) c.in_err-put_piece-in-Array.ensures.puts);
+          (puts-stop (err_from_is_err_and c.from_residual.result c.from_residual.ensures.1).1 (show_units (spell_type (view_type c.in-Array.element))) c.in_err-put_piece-in-Array.ensures.puts);
     }
 
 pub returns-in_ok-put_piece-in-Array : goal.returns-in_ok-put_piece-in-Array
@@ -20,5 +20,5 @@ returns-in_ok-put_piece-in-Array g t c =
     let is : view_type c.args.kind.now ≡ Array (view_type c.in-Array.element) = ap view_type c.in-Array.is ∙ view-array c.in-Array.element in
     record {
       puts = puts-as (ap (λ kind. show_units (spell_type kind)) (sym is))
-      (puts-then c.in_ok-put_piece-in-Array.ensures.puts (rw c.get.ensures.value at c.put_by_brackets.ensures.puts));
+          (puts-then c.in_ok-put_piece-in-Array.ensures.puts (rw c.get.ensures.value at c.put_by_brackets.ensures.puts));
     }

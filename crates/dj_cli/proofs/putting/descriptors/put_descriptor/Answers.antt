@@ -15,7 +15,7 @@ returns-in_err-put_piece-in-Method g c =
     let whole = ap (λ descriptor. show_units (spell_descriptor (view_descriptor descriptor))) (sym c.in-Method.is) in
     record {
       puts = puts-as (show-method parameters result ∙ whole)
-      (puts-stop (err_from_is_err_and c.from_residual.result c.from_residual.ensures.1).1 (show_units parameters ++ codes ")" ++ show_units result) c.in_err-put_piece-in-Method.ensures.puts);
+          (puts-stop (err_from_is_err_and c.from_residual.result c.from_residual.ensures.1).1 (show_units parameters ++ codes ")" ++ show_units result) c.in_err-put_piece-in-Method.ensures.puts);
     }
 
 pub returns-in_err-put_types-in-Method : goal.returns-in_err-put_types-in-Method
@@ -26,7 +26,7 @@ returns-in_err-put_types-in-Method g c =
     let parts = sym (append_assoc (codes "(" ++ show_units parameters) (codes ")") (show_units result)) in
     record {
       puts = puts-as (parts ∙ show-method parameters result ∙ whole)
-      (puts-stop (err_from_is_err_and c.from_residual-in_err-put_types-in-Method.result c.from_residual-in_err-put_types-in-Method.ensures.1).1 (codes ")" ++ show_units result) (puts-then c.in_ok-put_piece-in-Method.ensures.puts (rw c.as_slice.ensures.items at c.in_err-put_types-in-Method.ensures.puts)));
+          (puts-stop (err_from_is_err_and c.from_residual-in_err-put_types-in-Method.result c.from_residual-in_err-put_types-in-Method.ensures.1).1 (codes ")" ++ show_units result) (puts-then c.in_ok-put_piece-in-Method.ensures.puts (rw c.as_slice.ensures.items at c.in_err-put_types-in-Method.ensures.puts)));
     }
 
 pub returns-in_err-put_piece-in-Method-2 : goal.returns-in_err-put_piece-in-Method-2
@@ -36,7 +36,7 @@ returns-in_err-put_piece-in-Method-2 g c =
     let whole = ap (λ descriptor. show_units (spell_descriptor (view_descriptor descriptor))) (sym c.in-Method.is) in
     record {
       puts = puts-as (show-method parameters result ∙ whole)
-      (puts-stop (err_from_is_err_and c.from_residual-in_err-put_piece-in-Method-2.result c.from_residual-in_err-put_piece-in-Method-2.ensures.1).1 (show_units result) (puts-then (puts-then c.in_ok-put_piece-in-Method.ensures.puts (rw c.as_slice.ensures.items at c.in_ok-put_types-in-Method.ensures.puts)) c.in_err-put_piece-in-Method-2.ensures.puts));
+          (puts-stop (err_from_is_err_and c.from_residual-in_err-put_piece-in-Method-2.result c.from_residual-in_err-put_piece-in-Method-2.ensures.1).1 (show_units result) (puts-then (puts-then c.in_ok-put_piece-in-Method.ensures.puts (rw c.as_slice.ensures.items at c.in_ok-put_types-in-Method.ensures.puts)) c.in_err-put_piece-in-Method-2.ensures.puts));
     }
 
 pub returns-in_ok-put_piece-in-Method-2 : goal.returns-in_ok-put_piece-in-Method-2
@@ -46,5 +46,5 @@ returns-in_ok-put_piece-in-Method-2 g c =
     let whole = ap (λ descriptor. show_units (spell_descriptor (view_descriptor descriptor))) (sym c.in-Method.is) in
     record {
       puts = puts-as (show-method parameters result ∙ whole)
-      (puts-then (puts-then (puts-then c.in_ok-put_piece-in-Method.ensures.puts (rw c.as_slice.ensures.items at c.in_ok-put_types-in-Method.ensures.puts)) c.in_ok-put_piece-in-Method-2.ensures.puts) c.put_result.ensures.puts);
+          (puts-then (puts-then (puts-then c.in_ok-put_piece-in-Method.ensures.puts (rw c.as_slice.ensures.items at c.in_ok-put_types-in-Method.ensures.puts)) c.in_ok-put_piece-in-Method-2.ensures.puts) c.put_result.ensures.puts);
     }

@@ -11,7 +11,7 @@ returns-in_err-put_brackets g c =
     let element = spell_type (view_type c.split_brackets-count.result.1.now) in
     record {
       puts = puts-as (show-behind c.split_brackets-count.result.0 (spell_type (view_type c.args.kind.now)) element c.split_brackets-count.ensures.split)
-      (puts-stop (err_from_is_err_and c.from_residual.result c.from_residual.ensures.1).1 (show_units element) c.in_err-put_brackets.ensures.puts);
+          (puts-stop (err_from_is_err_and c.from_residual.result c.from_residual.ensures.1).1 (show_units element) c.in_err-put_brackets.ensures.puts);
     }
 
 pub returns : goal.returns
@@ -19,5 +19,5 @@ returns g c =
     let element = spell_type (view_type c.split_brackets-count.result.1.now) in
     record {
       puts = puts-as (show-behind c.split_brackets-count.result.0 (spell_type (view_type c.args.kind.now)) element c.split_brackets-count.ensures.split)
-      (puts-then c.in_ok-put_brackets.ensures.puts c.put_by_brackets.ensures.puts);
+          (puts-then c.in_ok-put_brackets.ensures.puts c.put_by_brackets.ensures.puts);
     }

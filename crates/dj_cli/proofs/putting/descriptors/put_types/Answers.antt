@@ -16,5 +16,5 @@ returns-in_err-put_type g c =
     let behind = flat_map (λ kind. show_units (spell_type (view_type kind))) (drop (i + 1) kinds) in
     record {
       puts = puts-as (types-at kinds i c.kind-item.result inside c.kind-item.is)
-      (puts-stop (err_from_is_err_and c.from_residual.result c.from_residual.ensures.1).1 behind (puts-then c.loop-kind.invariant c.in_err-put_type.ensures.puts));
+          (puts-stop (err_from_is_err_and c.from_residual.result c.from_residual.ensures.1).1 behind (puts-then c.loop-kind.invariant c.in_err-put_type.ensures.puts));
     }
