@@ -20,7 +20,8 @@ fn path_units(alloc: Global, path: &str) -> Result<Units, AllocError>
     for character in path.chars() {
         units.extend_from_slice(character.encode_utf16(&mut [0; 2]))?;
     }
-    Units::from_vec(units)
+    let units = Units::from_vec(units)?;
+    Ok(units)
 }
 
 /// A line that names a file of which nothing is printed yet.

@@ -10,4 +10,4 @@ pub returns : goal.returns
 returns c =
     let end = YieldsList-end (YieldsList-from_chars c.args.path.now c.utf8.path cc) c.loop-character.yielded _ c.loop-character.yielded_by _ _ c.in-None.is c.next.ensures.steps in
     let all = sym (map_fixed (λ (x : ℕ). x) c.loop-character.yielded (λ _ _ _. refl)) ∙ end.0 in
-    record { units = c.from_vec.ensures.units ∙ c.loop-character.invariant ∙ ap (flat_map encode_utf16) all }
+    record { units = c.in_ok-units.ensures.units ∙ c.loop-character.invariant ∙ ap (flat_map encode_utf16) all }
