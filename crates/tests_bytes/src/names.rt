@@ -7,12 +7,8 @@ use dj_names::{
 use std::alloc::Global;
 use std::test::Fail;
 
-fn units(alloc: Global, text: &str) -> Result<Units, Fail> {
-    let mut units = Vec::new(alloc);
-    for byte in text.as_bytes() {
-        units.push(u16::from(*byte))?;
-    }
-    Ok(Units::from_vec(units)?)
+fn units(alloc: Global, text: &str) -> Result<Units, NameFault> {
+    read_units(alloc, text.as_bytes())
 }
 
 /// The units of `count` times `letter` between `front` and `back`.
@@ -28,7 +24,7 @@ fn repeated(
         text.push_str(letter)?;
     }
     text.push_str(back)?;
-    units(alloc, text.as_str())
+    Ok(units(alloc, text.as_str())?)
 }
 
 #[test]
