@@ -1,3 +1,4 @@
+pub mod Examples
 pub mod ClassLayout
 pub mod ClassIsExact
 pub mod ClassContents

@@ -2,5 +2,8 @@
 pub mod ClassFile
 pub mod ResolvedClass
 pub mod FirstForm
+pub mod PoolFormat
+pub mod FileFormat
+pub mod Described
 -- What the crate keeps to itself.
 pub mod FirstParts

@@ -4,6 +4,7 @@
 #![tactic(auto)]
 
 mod class;
+pub mod file;
 
 pub use class::{
     Attribute, BrokenKind, ClassFile, Entry, Method, attributes_at, has_attribute, read_class,

@@ -1,0 +1,79 @@
+//! Entries of the constant pool of a class file (JVMS 4.4).
+
+ghost use Rattle.std.specs.Prelude.{◌≡◌, IfOk};
+
+use dj_names::Units;
+use std::alloc::{AllocError, Global};
+
+/// An entry of the constant pool; Skip stands at an index without one. A float and a double are
+/// kept by their bits, and Text is a String entry.
+#[derive(Debug, Drop)]
+pub enum Entry {
+    Skip,
+    Utf8(Units),
+    Integer(i32),
+    Float(u32),
+    Long(i64),
+    Double(u64),
+    Class(u16),
+    Text(u16),
+    FieldRef(u16, u16),
+    MethodRef(u16, u16),
+    InterfaceMethodRef(u16, u16),
+    NameAndType(u16, u16),
+    MethodHandle(u8, u16),
+    MethodType(u16),
+    InvokeDynamic(u16, u16),
+}
+
+impl Entry {
+    /// An equal entry, which shares its units with this one.
+    pub fn copy(&self, alloc: Global) -> Result<Entry, AllocError>
+        ensures equal { IfOk result (λ copy. copy ≡ self.now) }
+    {
+        match self {
+            Entry::Skip => Ok(Entry::Skip),
+            Entry::Utf8(units) => Ok(Entry::Utf8(units.copy(alloc)?)),
+            Entry::Integer(number) => Ok(Entry::Integer(*number)),
+            Entry::Float(bits) => Ok(Entry::Float(*bits)),
+            Entry::Long(number) => Ok(Entry::Long(*number)),
+            Entry::Double(bits) => Ok(Entry::Double(*bits)),
+            Entry::Class(name) => Ok(Entry::Class(*name)),
+            Entry::Text(units) => Ok(Entry::Text(*units)),
+            Entry::FieldRef(class, member) => Ok(Entry::FieldRef(*class, *member)),
+            Entry::MethodRef(class, member) => Ok(Entry::MethodRef(*class, *member)),
+            Entry::InterfaceMethodRef(class, member) => {
+                Ok(Entry::InterfaceMethodRef(*class, *member))
+            }
+            Entry::NameAndType(name, descriptor) => Ok(Entry::NameAndType(*name, *descriptor)),
+            Entry::MethodHandle(kind, reference) => Ok(Entry::MethodHandle(*kind, *reference)),
+            Entry::MethodType(descriptor) => Ok(Entry::MethodType(*descriptor)),
+            Entry::InvokeDynamic(bootstrap, member) => {
+                Ok(Entry::InvokeDynamic(*bootstrap, *member))
+            }
+        }
+    }
+}
+
+/// What is asked of a number in an entry once the whole pool is known.
+#[derive(Clone, Copy, Debug, PartialEq, Eq)]
+pub enum Ask {
+    /// Nothing: it is no index into the pool.
+    Free,
+    /// A text.
+    Text,
+    /// A text that is a class's name or an array's descriptor.
+    ClassText,
+    /// A text that is a descriptor.
+    AnyText,
+    /// A text that is a method's descriptor.
+    MethodText,
+    /// A class.
+    Class,
+    /// A name and type that leads to a field's descriptor.
+    FieldMember,
+    /// A name and type that leads to a method's descriptor.
+    MethodMember,
+    /// A reference to a field or a method.
+    Reference,
+}
