@@ -83,13 +83,13 @@ exact-pool = exact-headed _ _ _ (exact-tested _ _ _ exact-u2) (λ count. exact-v
 exact-sized : IsExact sized
 exact-sized = exact-headed _ _ _ (exact-number 4 kind.Short) (λ n. exact-run n kind.Short)
 
-exact-attribute : IsExact attribute
+pub exact-attribute : IsExact attribute
 exact-attribute = exact-headed (λ a. a.name) _ _ exact-u2 (λ name. exact-headed (λ a. a.content) _ _ exact-sized (λ content. exact-exactly (record { name = name; content = content })))
 
 pub exact-attributes : IsExact (counted attribute)
 exact-attributes = exact-counted attribute exact-attribute
 
-exact-member : IsExact member
+pub exact-member : IsExact member
 exact-member =
     exact-headed (λ m. m.flags) _ _ exact-u2 (λ flags. exact-headed (λ m. m.name) _ _ exact-u2 (λ name. exact-headed (λ m. m.descriptor) _ _ exact-u2 (λ descriptor.
     exact-headed (λ m. m.attributes) _ _ exact-attributes (λ attributes. exact-exactly (record { flags = flags; name = name; descriptor = descriptor; attributes = attributes })))))
@@ -116,7 +116,7 @@ exact-body =
     exact-headed (λ raw. (raw.minor, raw.major, raw.pool)) _ _ exact-front (λ front. exact-headed (λ raw. (raw.flags, raw.this_class, raw.super_class)) _ _ exact-own (λ own.
     exact-headed lists_of _ _ exact-lists (λ lists. exact-exactly (raw_of front own lists))))
 
-exact-magic : IsExact magic
+pub exact-magic : IsExact magic
 exact-magic = exact-tested _ _ _ (exact-number 4 kind.Short)
 
 pub exact-file : IsExact file

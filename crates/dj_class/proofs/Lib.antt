@@ -9,3 +9,6 @@ pub mod ClassDescriptors
 pub mod ClassResolved
 pub mod ClassFirstForm
 pub mod ClassIsUnique
+pub mod Utf8Exact
+pub mod FileIsExact
+pub mod FileIsUnique
