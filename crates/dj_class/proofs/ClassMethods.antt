@@ -92,10 +92,6 @@ zip_without R (a ∷ xs) (suc i) x within is none [] all = all
 zip_without R (a ∷ xs) zero x within is none (y ∷ ys) all = none y (rw is all.0)
 zip_without R (a ∷ xs) (suc i) x within is none (y ∷ ys) all = zip_without R xs i x (omega arith) is none ys all.1
 
--- all of the items
-pub zip_taken : {A B : Type 0} (R : A → B → Type 0) (xs : List A) (n : ℕ) (ys : List B) → length xs ≤ n → AllZip R (take n xs) ys → AllZip R xs ys
-zip_taken R xs n ys past all = subst (λ t. AllZip R t ys) (take_all n xs past) all
-
 pub some_of : {X : Type 0} (o : Option X) (x : X) (P : X → Type 0) → IfSome o P → o ≡ Some x → P x
 some_of o x P h is = rw is at h
 

@@ -3,6 +3,7 @@ pub mod ClassLayout
 pub mod ClassIsExact
 pub mod ClassContents
 pub mod ClassNameTests
+pub mod Zips
 pub mod ClassMethods
 pub mod ClassSound
 pub mod ClassDescriptors
@@ -12,3 +13,4 @@ pub mod ClassIsUnique
 pub mod Utf8Exact
 pub mod FileIsExact
 pub mod FileIsUnique
+pub mod PoolTables

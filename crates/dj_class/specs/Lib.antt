@@ -7,3 +7,4 @@ pub mod FileFormat
 pub mod Described
 -- What the crate keeps to itself.
 pub mod FirstParts
+pub mod PoolTable

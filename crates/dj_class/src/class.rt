@@ -12,6 +12,7 @@ ghost use Rattle.std.specs.Prelude.{◌≡◌, IfOk, IfSome, IfNone};
 ghost use Rattle.dj_class.specs.ResolvedClass as spec;
 ghost use Rattle.dj_class.specs.FirstForm.{IsFirstForm, view_class};
 
+pub(crate) use names::is_class_name;
 use dj_layout::Stop;
 use dj_names::{ClassName, Descriptor, Field, Items, Units};
 pub use pool::has_attribute;

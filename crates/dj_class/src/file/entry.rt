@@ -1,6 +1,8 @@
 //! Entries of the constant pool of a class file (JVMS 4.4).
 
 ghost use Rattle.std.specs.Prelude.{◌≡◌, IfOk};
+ghost use Rattle.std.specs.Option.{option_copied};
+ghost use Rattle.dj_class.specs.PoolFormat.{text_of};
 
 use dj_names::Units;
 use std::alloc::{AllocError, Global};
@@ -27,6 +29,29 @@ pub enum Entry {
 }
 
 impl Entry {
+    /// The units of a text.
+    pub fn text(&self) -> Option<&Units>
+        ensures text { option_copied result ≡ text_of self.now }
+    {
+        match self {
+            Entry::Utf8(units) => Some(units),
+            Entry::Skip
+            | Entry::Integer(_)
+            | Entry::Float(_)
+            | Entry::Long(_)
+            | Entry::Double(_)
+            | Entry::Class(_)
+            | Entry::Text(_)
+            | Entry::FieldRef(_, _)
+            | Entry::MethodRef(_, _)
+            | Entry::InterfaceMethodRef(_, _)
+            | Entry::NameAndType(_, _)
+            | Entry::MethodHandle(_, _)
+            | Entry::MethodType(_)
+            | Entry::InvokeDynamic(_, _) => None,
+        }
+    }
+
     /// An equal entry, which shares its units with this one.
     pub fn copy(&self, alloc: Global) -> Result<Entry, AllocError>
         ensures equal { IfOk result (λ copy. copy ≡ self.now) }

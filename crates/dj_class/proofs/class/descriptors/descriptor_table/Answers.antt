@@ -1,7 +1,6 @@
 use Rattle.dj_class.specs.ResolvedClass.{units_at}
 use Rattle.dj_class.specs.FirstParts.{IsReading}
-use Rattle.dj_class.proofs.ClassMethods.{zip_taken}
-use Rattle.dj_class.proofs.ClassSound.{table_more}
+use Rattle.dj_class.proofs.Zips.{zip_taken, table_more}
 use Rattle.dj_class.proofs.class.descriptors.descriptor_table.Goals as goal
 
 pub returns : goal.returns

@@ -1,7 +1,6 @@
 use Rattle.std.proofs.Common.{◌↔◌, IsTrue}
 use Rattle.dj_class.specs.FirstParts.{IsNameEntry}
-use Rattle.dj_class.proofs.ClassMethods.{zip_taken}
-use Rattle.dj_class.proofs.ClassSound.{table_more}
+use Rattle.dj_class.proofs.Zips.{zip_taken, table_more}
 use Rattle.dj_class.proofs.class.sound.name_table.Goals as goal
 
 pub returns : goal.returns
