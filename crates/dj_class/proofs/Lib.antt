@@ -14,3 +14,4 @@ pub mod Utf8Exact
 pub mod FileIsExact
 pub mod FileIsUnique
 pub mod PoolTables
+pub mod PoolTexts

@@ -1,8 +1,8 @@
 -- What is kept of each text of a pool, so that it is judged once.
-use Rattle.std.specs.Prelude.{◌↔◌, ℕ, List, Option, Some, None, IsTrue, IsSomeAnd}
+use Rattle.std.specs.Prelude.{◌↔◌, ℕ, List, Option, Some, None, Bool, true, false, IsTrue, IsSomeAnd}
 use Rattle.std.specs.List.{AllZip}
 use Rattle.dj_names.specs.declared.descriptor.Descriptor as code_descriptor
-use Rattle.dj_names.specs.Types.{Descriptor, view_descriptor}
+use Rattle.dj_names.specs.Types.{JType, Boolean, Byte, Char, Short, Int, Long, Float, Double, Class, Array, Descriptor, view_descriptor}
 use Rattle.dj_names.specs.ClassNames.{IsClassName}
 use Rattle.dj_names.specs.Descriptors.{SpellsDescriptor}
 use Rattle.dj_class.specs.declared.file.entry.Entry.{Entry}
@@ -22,3 +22,16 @@ pub record Agrees (entry : Entry) (parsed : Parsed) : Type 0 where
 -- the table tells of each entry
 abbrev pub IsTable : List Entry → List Parsed → Type 0
 IsTable entries table = AllZip Agrees entries table
+
+-- whether a type is an array's
+abbrev pub is_array_type : JType → Bool
+is_array_type Boolean = false
+is_array_type Byte = false
+is_array_type Char = false
+is_array_type Short = false
+is_array_type Int = false
+is_array_type Long = false
+is_array_type Float = false
+is_array_type Double = false
+is_array_type (Class name) = false
+is_array_type (Array element) = true

@@ -2,7 +2,7 @@
 
 ghost use Rattle.std.specs.Prelude.{◌≡◌, IfOk};
 ghost use Rattle.std.specs.Option.{option_copied};
-ghost use Rattle.dj_class.specs.PoolFormat.{text_of};
+ghost use Rattle.dj_class.specs.PoolFormat.{tag_of, text_of, first_with, second_with};
 
 use dj_names::Units;
 use std::alloc::{AllocError, Global};
@@ -46,6 +46,75 @@ impl Entry {
             | Entry::MethodRef(_, _)
             | Entry::InterfaceMethodRef(_, _)
             | Entry::NameAndType(_, _)
+            | Entry::MethodHandle(_, _)
+            | Entry::MethodType(_)
+            | Entry::InvokeDynamic(_, _) => None,
+        }
+    }
+
+    /// The tag that the entry has, 0 at an index without one.
+    pub fn tag(&self) -> u8
+        ensures tag { result ≡ tag_of self.now }
+    {
+        match self {
+            Entry::Skip => 0,
+            Entry::Utf8(_) => 1,
+            Entry::Integer(_) => 3,
+            Entry::Float(_) => 4,
+            Entry::Long(_) => 5,
+            Entry::Double(_) => 6,
+            Entry::Class(_) => 7,
+            Entry::Text(_) => 8,
+            Entry::FieldRef(_, _) => 9,
+            Entry::MethodRef(_, _) => 10,
+            Entry::InterfaceMethodRef(_, _) => 11,
+            Entry::NameAndType(_, _) => 12,
+            Entry::MethodHandle(_, _) => 15,
+            Entry::MethodType(_) => 16,
+            Entry::InvokeDynamic(_, _) => 18,
+        }
+    }
+
+    /// The index of the name of a class.
+    pub fn class_name(&self) -> Option<u16>
+        ensures name { result ≡ first_with 7 self.now }
+    {
+        match self {
+            Entry::Class(name) => Some(*name),
+            Entry::Skip
+            | Entry::Utf8(_)
+            | Entry::Integer(_)
+            | Entry::Float(_)
+            | Entry::Long(_)
+            | Entry::Double(_)
+            | Entry::Text(_)
+            | Entry::FieldRef(_, _)
+            | Entry::MethodRef(_, _)
+            | Entry::InterfaceMethodRef(_, _)
+            | Entry::NameAndType(_, _)
+            | Entry::MethodHandle(_, _)
+            | Entry::MethodType(_)
+            | Entry::InvokeDynamic(_, _) => None,
+        }
+    }
+
+    /// The index of the descriptor of a name and type.
+    pub fn descriptor(&self) -> Option<u16>
+        ensures descriptor { result ≡ second_with 12 self.now }
+    {
+        match self {
+            Entry::NameAndType(_, descriptor) => Some(*descriptor),
+            Entry::Skip
+            | Entry::Utf8(_)
+            | Entry::Integer(_)
+            | Entry::Float(_)
+            | Entry::Long(_)
+            | Entry::Double(_)
+            | Entry::Class(_)
+            | Entry::Text(_)
+            | Entry::FieldRef(_, _)
+            | Entry::MethodRef(_, _)
+            | Entry::InterfaceMethodRef(_, _)
             | Entry::MethodHandle(_, _)
             | Entry::MethodType(_)
             | Entry::InvokeDynamic(_, _) => None,
