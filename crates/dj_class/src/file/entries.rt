@@ -1,12 +1,12 @@
 //! The pool of a class file front to back: texts, numbers and entries (JVMS 4.4).
 
-ghost use Rattle.std.specs.Prelude.{◌≡◌, ◌≤◌, ◌↔◌, IsTrue};
+ghost use Rattle.std.specs.Prelude.{◌≡◌, ◌≤◌, ◌↔◌, List, Option, IsTrue};
 ghost use Rattle.std.specs.Option.{option_copied};
 ghost use Rattle.dj_layout.specs.Layout.{Reads};
-ghost use Rattle.dj_layout.specs.Parts.{number};
+ghost use Rattle.dj_layout.specs.Parts.{number, tested};
 ghost use Rattle.dj_layout.specs.Passes.{asked};
-ghost use Rattle.dj_class.specs.declared.class.raw.BrokenKind.TheVariants.{Short, Index};
-ghost use Rattle.dj_class.specs.declared.file.entry.Ask.TheVariants.{Free};
+ghost use Rattle.dj_class.specs.declared.class.raw.BrokenKind.TheVariants.{Short, Index, Tag};
+ghost use Rattle.dj_class.specs.declared.file.entry.Entry as spec;
 ghost use Rattle.dj_class.specs.PoolFormat.{utf8, text, asked_number, behind, content_of, tag_of, places, is_tag, tag_within, entry_within, entries, pool, IsFound, LeadsRight};
 
 use crate::class::BrokenKind;
@@ -110,4 +110,184 @@ fn is_tag(tag: u8) -> bool
     ensures tag { result ≡ is_tag tag }
 {
     tag == 1 || (3 <= tag && tag <= 12) || tag == 15 || tag == 16 || tag == 18
+}
+
+/// A tag of an entry.
+fn known_tag_at(bytes: &[u8], end: usize) -> Result<(u8, &[u8]), Stop<BrokenKind>>
+    ensures reads { Reads (tested (number 1 Short) is_tag Tag) (λ x. (x.0, x.1.now)) end bytes.now result }
+{
+    let (tag, rest) = u8_at(bytes, end, BrokenKind::Short)?;
+    if !is_tag(tag) {
+        return Err(Stop::Fault(fault_at(bytes, end, BrokenKind::Tag)));
+    }
+    Ok((tag, rest))
+}
+
+/// A tag of an entry that has room in so many indices.
+fn tag_at(room: u16, bytes: &[u8], end: usize) -> Result<(u8, &[u8]), Stop<BrokenKind>>
+    ensures reads { Reads (tag_within room) (λ x. (x.0, x.1.now)) end bytes.now result }
+{
+    let (tag, rest) = known_tag_at(bytes, end)?;
+    if places(tag) > room {
+        return Err(Stop::Fault(fault_at(bytes, end, BrokenKind::Index)));
+    }
+    Ok((tag, rest))
+}
+
+/// What follows the tag of a text.
+fn utf8_entry_at(
+    alloc: Global,
+    bytes: &[u8],
+    end: usize,
+) -> Result<(Entry, &[u8]), Stop<BrokenKind>>
+    ensures reads { (given : Option (List spec.Entry)) → Reads (behind given 1 (content_of 1)) (λ x. (x.0, x.1.now)) end bytes.now result }
+{
+    let (units, rest) = text_at(alloc, bytes, end)?;
+    Ok((Entry::Utf8(units), rest))
+}
+
+/// What follows the tag of an Integer.
+fn integer_at(bytes: &[u8], end: usize) -> Result<(Entry, &[u8]), Stop<BrokenKind>>
+    ensures reads { (given : Option (List spec.Entry)) → Reads (behind given 3 (content_of 3)) (λ x. (x.0, x.1.now)) end bytes.now result }
+{
+    let (bits, rest) = u32_at(bytes, end, BrokenKind::Short)?;
+    Ok((Entry::Integer(bits.cast_signed()), rest))
+}
+
+/// What follows the tag of a Float.
+fn float_at(bytes: &[u8], end: usize) -> Result<(Entry, &[u8]), Stop<BrokenKind>>
+    ensures reads { (given : Option (List spec.Entry)) → Reads (behind given 4 (content_of 4)) (λ x. (x.0, x.1.now)) end bytes.now result }
+{
+    let (bits, rest) = u32_at(bytes, end, BrokenKind::Short)?;
+    Ok((Entry::Float(bits), rest))
+}
+
+/// What follows the tag of a Long.
+fn long_at(bytes: &[u8], end: usize) -> Result<(Entry, &[u8]), Stop<BrokenKind>>
+    ensures reads { (given : Option (List spec.Entry)) → Reads (behind given 5 (content_of 5)) (λ x. (x.0, x.1.now)) end bytes.now result }
+{
+    let (bits, rest) = u64_at(bytes, end, BrokenKind::Short)?;
+    Ok((Entry::Long(bits.cast_signed()), rest))
+}
+
+/// What follows the tag of a Double.
+fn double_at(bytes: &[u8], end: usize) -> Result<(Entry, &[u8]), Stop<BrokenKind>>
+    ensures reads { (given : Option (List spec.Entry)) → Reads (behind given 6 (content_of 6)) (λ x. (x.0, x.1.now)) end bytes.now result }
+{
+    let (bits, rest) = u64_at(bytes, end, BrokenKind::Short)?;
+    Ok((Entry::Double(bits), rest))
+}
+
+/// What follows the tag of a Class.
+fn class_at<'a>(
+    given: Option<&Pool>,
+    bytes: &'a [u8],
+    end: usize,
+) -> Result<(Entry, &'a [u8]), Stop<BrokenKind>>
+    ensures reads { Reads (behind (option_copied given.entry) 7 (content_of 7)) (λ x. (x.0, x.1.now)) end bytes.now result }
+{
+    let (name, rest) = index_at(given, Ask::ClassText, bytes, end)?;
+    Ok((Entry::Class(name), rest))
+}
+
+/// What follows the tag of a String.
+fn string_at<'a>(
+    given: Option<&Pool>,
+    bytes: &'a [u8],
+    end: usize,
+) -> Result<(Entry, &'a [u8]), Stop<BrokenKind>>
+    ensures reads { Reads (behind (option_copied given.entry) 8 (content_of 8)) (λ x. (x.0, x.1.now)) end bytes.now result }
+{
+    let (units, rest) = index_at(given, Ask::Text, bytes, end)?;
+    Ok((Entry::Text(units), rest))
+}
+
+/// What follows the tag of a MethodType.
+fn method_type_at<'a>(
+    given: Option<&Pool>,
+    bytes: &'a [u8],
+    end: usize,
+) -> Result<(Entry, &'a [u8]), Stop<BrokenKind>>
+    ensures reads { Reads (behind (option_copied given.entry) 16 (content_of 16)) (λ x. (x.0, x.1.now)) end bytes.now result }
+{
+    let (descriptor, rest) = index_at(given, Ask::MethodText, bytes, end)?;
+    Ok((Entry::MethodType(descriptor), rest))
+}
+
+/// What follows the tag of a Fieldref.
+fn field_ref_at<'a>(
+    given: Option<&Pool>,
+    bytes: &'a [u8],
+    end: usize,
+) -> Result<(Entry, &'a [u8]), Stop<BrokenKind>>
+    ensures reads { Reads (behind (option_copied given.entry) 9 (content_of 9)) (λ x. (x.0, x.1.now)) end bytes.now result }
+{
+    let (class, rest) = index_at(given, Ask::Class, bytes, end)?;
+    let (member, rest) = index_at(given, Ask::FieldMember, rest, end)?;
+    Ok((Entry::FieldRef(class, member), rest))
+}
+
+/// What follows the tag of a Methodref.
+fn method_ref_at<'a>(
+    given: Option<&Pool>,
+    bytes: &'a [u8],
+    end: usize,
+) -> Result<(Entry, &'a [u8]), Stop<BrokenKind>>
+    ensures reads { Reads (behind (option_copied given.entry) 10 (content_of 10)) (λ x. (x.0, x.1.now)) end bytes.now result }
+{
+    let (class, rest) = index_at(given, Ask::Class, bytes, end)?;
+    let (member, rest) = index_at(given, Ask::MethodMember, rest, end)?;
+    Ok((Entry::MethodRef(class, member), rest))
+}
+
+/// What follows the tag of an InterfaceMethodref.
+fn interface_method_ref_at<'a>(
+    given: Option<&Pool>,
+    bytes: &'a [u8],
+    end: usize,
+) -> Result<(Entry, &'a [u8]), Stop<BrokenKind>>
+    ensures reads { Reads (behind (option_copied given.entry) 11 (content_of 11)) (λ x. (x.0, x.1.now)) end bytes.now result }
+{
+    let (class, rest) = index_at(given, Ask::Class, bytes, end)?;
+    let (member, rest) = index_at(given, Ask::MethodMember, rest, end)?;
+    Ok((Entry::InterfaceMethodRef(class, member), rest))
+}
+
+/// What follows the tag of a NameAndType.
+fn name_and_type_at<'a>(
+    given: Option<&Pool>,
+    bytes: &'a [u8],
+    end: usize,
+) -> Result<(Entry, &'a [u8]), Stop<BrokenKind>>
+    ensures reads { Reads (behind (option_copied given.entry) 12 (content_of 12)) (λ x. (x.0, x.1.now)) end bytes.now result }
+{
+    let (name, rest) = index_at(given, Ask::Text, bytes, end)?;
+    let (descriptor, rest) = index_at(given, Ask::AnyText, rest, end)?;
+    Ok((Entry::NameAndType(name, descriptor), rest))
+}
+
+/// What follows the tag of an InvokeDynamic.
+fn invoke_dynamic_at<'a>(
+    given: Option<&Pool>,
+    bytes: &'a [u8],
+    end: usize,
+) -> Result<(Entry, &'a [u8]), Stop<BrokenKind>>
+    ensures reads { Reads (behind (option_copied given.entry) 18 (content_of 18)) (λ x. (x.0, x.1.now)) end bytes.now result }
+{
+    let (bootstrap, rest) = index_at(given, Ask::Free, bytes, end)?;
+    let (member, rest) = index_at(given, Ask::MethodMember, rest, end)?;
+    Ok((Entry::InvokeDynamic(bootstrap, member), rest))
+}
+
+/// What follows the tag of a MethodHandle.
+fn method_handle_at<'a>(
+    given: Option<&Pool>,
+    bytes: &'a [u8],
+    end: usize,
+) -> Result<(Entry, &'a [u8]), Stop<BrokenKind>>
+    ensures reads { Reads (behind (option_copied given.entry) 15 (content_of 15)) (λ x. (x.0, x.1.now)) end bytes.now result }
+{
+    let (kind, rest) = u8_at(bytes, end, BrokenKind::Short)?;
+    let (reference, rest) = index_at(given, Ask::Reference, rest, end)?;
+    Ok((Entry::MethodHandle(kind, reference), rest))
 }
