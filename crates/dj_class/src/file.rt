@@ -4,6 +4,7 @@ mod entries;
 mod entry;
 mod parsed;
 mod pool;
+mod pools;
 mod texts;
 
 pub use entry::{Ask, Entry};

@@ -1,6 +1,6 @@
 //! The pool of a class file front to back: texts, numbers and entries (JVMS 4.4).
 
-ghost use Rattle.std.specs.Prelude.{◌≡◌, ◌≤◌, ◌↔◌, List, Option, IsTrue};
+ghost use Rattle.std.specs.Prelude.{◌≡◌, ◌≤◌, ◌↔◌, List, Option, IsTrue, IfOk};
 ghost use Rattle.std.specs.Option.{option_copied};
 ghost use Rattle.dj_layout.specs.Layout.{Reads};
 ghost use Rattle.dj_layout.specs.Parts.{number, tested};
@@ -99,7 +99,7 @@ fn index_at<'a>(
 }
 
 /// How many indices an entry of this tag takes.
-fn places(tag: u8) -> u16
+pub fn places(tag: u8) -> u16
     ensures places { result ≡ places tag }
 {
     if tag == 5 || tag == 6 { 2 } else { 1 }
@@ -124,7 +124,7 @@ fn known_tag_at(bytes: &[u8], end: usize) -> Result<(u8, &[u8]), Stop<BrokenKind
 }
 
 /// A tag of an entry that has room in so many indices.
-fn tag_at(room: u16, bytes: &[u8], end: usize) -> Result<(u8, &[u8]), Stop<BrokenKind>>
+pub fn tag_at(room: u16, bytes: &[u8], end: usize) -> Result<(u8, &[u8]), Stop<BrokenKind>>
     ensures reads { Reads (tag_within room) (λ x. (x.0, x.1.now)) end bytes.now result }
 {
     let (tag, rest) = known_tag_at(bytes, end)?;
@@ -135,51 +135,56 @@ fn tag_at(room: u16, bytes: &[u8], end: usize) -> Result<(u8, &[u8]), Stop<Broke
 }
 
 /// What follows the tag of a text.
-fn utf8_entry_at(
+pub fn utf8_entry_at(
     alloc: Global,
     bytes: &[u8],
     end: usize,
 ) -> Result<(Entry, &[u8]), Stop<BrokenKind>>
     ensures reads { (given : Option (List spec.Entry)) → Reads (behind given 1 (content_of 1)) (λ x. (x.0, x.1.now)) end bytes.now result }
+    ensures tag { IfOk result (λ x. tag_of x.0 ≡ 1) }
 {
     let (units, rest) = text_at(alloc, bytes, end)?;
     Ok((Entry::Utf8(units), rest))
 }
 
 /// What follows the tag of an Integer.
-fn integer_at(bytes: &[u8], end: usize) -> Result<(Entry, &[u8]), Stop<BrokenKind>>
+pub fn integer_at(bytes: &[u8], end: usize) -> Result<(Entry, &[u8]), Stop<BrokenKind>>
     ensures reads { (given : Option (List spec.Entry)) → Reads (behind given 3 (content_of 3)) (λ x. (x.0, x.1.now)) end bytes.now result }
+    ensures tag { IfOk result (λ x. tag_of x.0 ≡ 3) }
 {
     let (bits, rest) = u32_at(bytes, end, BrokenKind::Short)?;
     Ok((Entry::Integer(bits.cast_signed()), rest))
 }
 
 /// What follows the tag of a Float.
-fn float_at(bytes: &[u8], end: usize) -> Result<(Entry, &[u8]), Stop<BrokenKind>>
+pub fn float_at(bytes: &[u8], end: usize) -> Result<(Entry, &[u8]), Stop<BrokenKind>>
     ensures reads { (given : Option (List spec.Entry)) → Reads (behind given 4 (content_of 4)) (λ x. (x.0, x.1.now)) end bytes.now result }
+    ensures tag { IfOk result (λ x. tag_of x.0 ≡ 4) }
 {
     let (bits, rest) = u32_at(bytes, end, BrokenKind::Short)?;
     Ok((Entry::Float(bits), rest))
 }
 
 /// What follows the tag of a Long.
-fn long_at(bytes: &[u8], end: usize) -> Result<(Entry, &[u8]), Stop<BrokenKind>>
+pub fn long_at(bytes: &[u8], end: usize) -> Result<(Entry, &[u8]), Stop<BrokenKind>>
     ensures reads { (given : Option (List spec.Entry)) → Reads (behind given 5 (content_of 5)) (λ x. (x.0, x.1.now)) end bytes.now result }
+    ensures tag { IfOk result (λ x. tag_of x.0 ≡ 5) }
 {
     let (bits, rest) = u64_at(bytes, end, BrokenKind::Short)?;
     Ok((Entry::Long(bits.cast_signed()), rest))
 }
 
 /// What follows the tag of a Double.
-fn double_at(bytes: &[u8], end: usize) -> Result<(Entry, &[u8]), Stop<BrokenKind>>
+pub fn double_at(bytes: &[u8], end: usize) -> Result<(Entry, &[u8]), Stop<BrokenKind>>
     ensures reads { (given : Option (List spec.Entry)) → Reads (behind given 6 (content_of 6)) (λ x. (x.0, x.1.now)) end bytes.now result }
+    ensures tag { IfOk result (λ x. tag_of x.0 ≡ 6) }
 {
     let (bits, rest) = u64_at(bytes, end, BrokenKind::Short)?;
     Ok((Entry::Double(bits), rest))
 }
 
 /// What follows the tag of a Class.
-fn class_at<'a>(
+pub fn class_at<'a>(
     given: Option<&Pool>,
     bytes: &'a [u8],
     end: usize,
@@ -191,7 +196,7 @@ fn class_at<'a>(
 }
 
 /// What follows the tag of a String.
-fn string_at<'a>(
+pub fn string_at<'a>(
     given: Option<&Pool>,
     bytes: &'a [u8],
     end: usize,
@@ -203,7 +208,7 @@ fn string_at<'a>(
 }
 
 /// What follows the tag of a MethodType.
-fn method_type_at<'a>(
+pub fn method_type_at<'a>(
     given: Option<&Pool>,
     bytes: &'a [u8],
     end: usize,
@@ -215,7 +220,7 @@ fn method_type_at<'a>(
 }
 
 /// What follows the tag of a Fieldref.
-fn field_ref_at<'a>(
+pub fn field_ref_at<'a>(
     given: Option<&Pool>,
     bytes: &'a [u8],
     end: usize,
@@ -228,7 +233,7 @@ fn field_ref_at<'a>(
 }
 
 /// What follows the tag of a Methodref.
-fn method_ref_at<'a>(
+pub fn method_ref_at<'a>(
     given: Option<&Pool>,
     bytes: &'a [u8],
     end: usize,
@@ -241,7 +246,7 @@ fn method_ref_at<'a>(
 }
 
 /// What follows the tag of an InterfaceMethodref.
-fn interface_method_ref_at<'a>(
+pub fn interface_method_ref_at<'a>(
     given: Option<&Pool>,
     bytes: &'a [u8],
     end: usize,
@@ -254,7 +259,7 @@ fn interface_method_ref_at<'a>(
 }
 
 /// What follows the tag of a NameAndType.
-fn name_and_type_at<'a>(
+pub fn name_and_type_at<'a>(
     given: Option<&Pool>,
     bytes: &'a [u8],
     end: usize,
@@ -267,7 +272,7 @@ fn name_and_type_at<'a>(
 }
 
 /// What follows the tag of an InvokeDynamic.
-fn invoke_dynamic_at<'a>(
+pub fn invoke_dynamic_at<'a>(
     given: Option<&Pool>,
     bytes: &'a [u8],
     end: usize,
@@ -280,7 +285,7 @@ fn invoke_dynamic_at<'a>(
 }
 
 /// What follows the tag of a MethodHandle.
-fn method_handle_at<'a>(
+pub fn method_handle_at<'a>(
     given: Option<&Pool>,
     bytes: &'a [u8],
     end: usize,
