@@ -41,7 +41,7 @@ told_at_reference = refl
 least : Raw
 least = record {
   front = record { minor = 0; major = 52; pool = entry.Skip ∷ entry.Utf8 (codes "java/lang/Object") ∷ entry.Class 1 ∷ [] };
-  rest = record { flags = 33; this_class = 2; super_class = 0; interfaces = []; fields = []; methods = []; attributes = [] };
+  rest = record { own = record { flags = 33; this_class = 2; super_class = 0 }; listed = record { interfaces = []; fields = []; methods = []; attributes = [] } };
 }
 
 least_bytes : (file 50).spell least ≡ 202 ∷ 254 ∷ 186 ∷ 190 ∷ 0 ∷ 0 ∷ 0 ∷ 52 ∷ 0 ∷ 3 ∷ 1 ∷ 0 ∷ 16 ∷ codes "java/lang/Object" ++ 7 ∷ 0 ∷ 1 ∷ 0 ∷ 33 ∷ 0 ∷ 2 ∷ 0 ∷ 0 ∷ 0 ∷ 0 ∷ 0 ∷ 0 ∷ 0 ∷ 0 ∷ 0 ∷ 0 ∷ []

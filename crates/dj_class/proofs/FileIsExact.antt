@@ -15,7 +15,7 @@ use Rattle.dj_class.specs.declared.file.entry.Entry.TheVariants as entry
 use Rattle.dj_class.specs.declared.file.entry.Ask.{Ask}
 use Rattle.dj_class.specs.ClassFile.{u2, counted, attribute, member, magic}
 use Rattle.dj_class.specs.PoolFormat.{Content, Characters, One, Two, asked_number, behind, content_of, tag_of, first_of, second_of, units_of, text, tag_within, entry_within, spell_entry, plain_entries, entries, places_of, entry_with, isnt_skip, spread, pool}
-use Rattle.dj_class.specs.FileFormat.{Front, Rest, Raw, major, front, plain_rest, file_of, file, named, counted_in_turn, IsClassIndex, field, method, method_attributes, lawful_rest, sound}
+use Rattle.dj_class.specs.FileFormat.{Front, Own, Listed, Rest, Raw, major, front, plain_own, plain_listed, rest_of, plain_rest, file_of, file, named, counted_in_turn, IsClassIndex, field, method, method_attributes, lawful_own, lawful_listed, lawful_rest, sound}
 use Rattle.dj_class.proofs.ClassIsExact.{exact-u2, exact-counted, exact-attribute, exact-member, exact-magic}
 use Rattle.dj_class.proofs.Utf8Exact.{exact-utf8}
 
@@ -75,11 +75,23 @@ exact-front : (oldest : ℕ) (given : Option (List Entry)) → IsExact (front ol
 exact-front oldest given =
     exact-headed (λ (f : Front). f.minor) _ _ exact-u2 (λ minor. exact-headed (λ (f : Front). f.major) _ _ (exact-major oldest) (λ major. exact-headed (λ (f : Front). f.pool) _ _ (exact-pool given) (λ pool. exact-exactly (record { minor = minor; major = major; pool = pool }))))
 
+exact-plain_own : IsExact plain_own
+exact-plain_own =
+    exact-headed (λ (o : Own). o.flags) _ _ exact-u2 (λ flags. exact-headed (λ (o : Own). o.this_class) _ _ exact-u2 (λ this_class. exact-headed (λ (o : Own). o.super_class) _ _ exact-u2 (λ super_class.
+    exact-exactly (record { flags = flags; this_class = this_class; super_class = super_class }))))
+
+exact-plain_listed : IsExact plain_listed
+exact-plain_listed =
+    exact-headed (λ (l : Listed). l.interfaces) _ _ (exact-counted u2 exact-u2) (λ interfaces. exact-headed (λ (l : Listed). l.fields) _ _ (exact-counted member exact-member) (λ fields.
+    exact-headed (λ (l : Listed). l.methods) _ _ (exact-counted member exact-member) (λ methods. exact-headed (λ (l : Listed). l.attributes) _ _ (exact-counted attribute exact-attribute) (λ attributes.
+    exact-exactly (record { interfaces = interfaces; fields = fields; methods = methods; attributes = attributes })))))
+
+exact-rest_of : (own : Layout BrokenKind Own) (listed : Layout BrokenKind Listed) → IsExact own → IsExact listed → IsExact (rest_of own listed)
+exact-rest_of own listed own_exact listed_exact =
+    exact-headed (λ (r : Rest). r.own) _ _ own_exact (λ first. exact-headed (λ (r : Rest). r.listed) _ _ listed_exact (λ others. exact-exactly (record { own = first; listed = others })))
+
 exact-plain_rest : IsExact plain_rest
-exact-plain_rest =
-    exact-headed (λ (r : Rest). r.flags) _ _ exact-u2 (λ flags. exact-headed (λ (r : Rest). r.this_class) _ _ exact-u2 (λ this_class. exact-headed (λ (r : Rest). r.super_class) _ _ exact-u2 (λ super_class.
-    exact-headed (λ (r : Rest). r.interfaces) _ _ (exact-counted u2 exact-u2) (λ interfaces. exact-headed (λ (r : Rest). r.fields) _ _ (exact-counted member exact-member) (λ fields.
-    exact-headed (λ (r : Rest). r.methods) _ _ (exact-counted member exact-member) (λ methods. exact-headed (λ (r : Rest). r.attributes) _ _ (exact-counted attribute exact-attribute) (λ attributes. exact-exactly (record { flags = flags; this_class = this_class; super_class = super_class; interfaces = interfaces; fields = fields; methods = methods; attributes = attributes }))))))))
+exact-plain_rest = exact-rest_of _ _ exact-plain_own exact-plain_listed
 
 exact-file_of : (front : Layout BrokenKind Front) (rest : List Entry → Layout BrokenKind Rest) → IsExact front → ((pool : List Entry) → IsExact (rest pool)) → IsExact (file_of front rest)
 exact-file_of front rest exact exacts =
@@ -115,12 +127,19 @@ exact-method pool =
 exact-classes : (pool : List Entry) → IsExact (counted (asked u2 (IsClassIndex pool) kind.Index))
 exact-classes pool = exact-counted _ (exact-asked _ _ _ exact-u2)
 
+exact-lawful_own : (pool : List Entry) → IsExact (lawful_own pool)
+exact-lawful_own pool =
+    exact-headed (λ (o : Own). o.flags) _ _ (exact-asked _ _ _ exact-u2) (λ flags. exact-headed (λ (o : Own). o.this_class) _ _ (exact-asked _ _ _ exact-u2) (λ this_class.
+    exact-headed (λ (o : Own). o.super_class) _ _ (exact-asked _ _ _ exact-u2) (λ super_class. exact-exactly (record { flags = flags; this_class = this_class; super_class = super_class }))))
+
+exact-lawful_listed : (pool : List Entry) → IsExact (lawful_listed pool)
+exact-lawful_listed pool =
+    exact-headed (λ (l : Listed). l.interfaces) _ _ (exact-classes pool) (λ interfaces. exact-headed (λ (l : Listed). l.fields) _ _ (exact-counted _ (exact-field pool)) (λ fields.
+    exact-headed (λ (l : Listed). l.methods) _ _ (exact-counted _ (exact-method pool)) (λ methods. exact-headed (λ (l : Listed). l.attributes) _ _ (exact-counted _ (exact-named pool)) (λ attributes.
+    exact-exactly (record { interfaces = interfaces; fields = fields; methods = methods; attributes = attributes })))))
+
 exact-lawful_rest : (pool : List Entry) → IsExact (lawful_rest pool)
-exact-lawful_rest pool =
-    exact-headed (λ (r : Rest). r.flags) _ _ (exact-asked _ _ _ exact-u2) (λ flags. exact-headed (λ (r : Rest). r.this_class) _ _ (exact-asked _ _ _ exact-u2) (λ this_class.
-    exact-headed (λ (r : Rest). r.super_class) _ _ (exact-asked _ _ _ exact-u2) (λ super_class. exact-headed (λ (r : Rest). r.interfaces) _ _ (exact-classes pool) (λ interfaces.
-    exact-headed (λ (r : Rest). r.fields) _ _ (exact-counted _ (exact-field pool)) (λ fields. exact-headed (λ (r : Rest). r.methods) _ _ (exact-counted _ (exact-method pool)) (λ methods.
-    exact-headed (λ (r : Rest). r.attributes) _ _ (exact-counted _ (exact-named pool)) (λ attributes. exact-exactly (record { flags = flags; this_class = this_class; super_class = super_class; interfaces = interfaces; fields = fields; methods = methods; attributes = attributes }))))))))
+exact-lawful_rest pool = exact-rest_of _ _ (exact-lawful_own pool) (exact-lawful_listed pool)
 
 pub exact-sound : (oldest : ℕ) (pool : List Entry) → IsExact (sound oldest pool)
 exact-sound oldest pool = exact-file_of _ _ (exact-front oldest (Some pool)) exact-lawful_rest

@@ -110,11 +110,11 @@ one_described raw a b x y =
     let major : a.major ≡ b.major = x.major ∙ sym y.major in
     let pool : a.pool ≡ b.pool = x.pool ∙ sym y.pool in
     let flags : a.flags ≡ b.flags = x.flags ∙ sym y.flags in
-    let this_class = one_name raw.front.pool raw.rest.this_class a.this_class b.this_class x.this_class y.this_class in
+    let this_class = one_name raw.front.pool raw.rest.own.this_class a.this_class b.this_class x.this_class y.this_class in
     let super_class : a.super_class ≡ b.super_class = x.super_class ∙ sym y.super_class in
-    let interfaces = one_list (LeadsTo raw.front.pool) (one_name raw.front.pool) raw.rest.interfaces a.interfaces b.interfaces x.interfaces y.interfaces in
-    let fields = one_list (DescribesField raw.front.pool) (one_field raw.front.pool) raw.rest.fields a.fields b.fields x.fields y.fields in
-    let methods = one_list (DescribesAMethod raw.front.pool) (one_method raw.front.pool) raw.rest.methods a.methods b.methods x.methods y.methods in
+    let interfaces = one_list (LeadsTo raw.front.pool) (one_name raw.front.pool) raw.rest.listed.interfaces a.interfaces b.interfaces x.interfaces y.interfaces in
+    let fields = one_list (DescribesField raw.front.pool) (one_field raw.front.pool) raw.rest.listed.fields a.fields b.fields x.fields y.fields in
+    let methods = one_list (DescribesAMethod raw.front.pool) (one_method raw.front.pool) raw.rest.listed.methods a.methods b.methods x.methods y.methods in
     let same : class_with a.minor a.major a.pool a.flags a.this_class a.super_class a.interfaces a.fields a.methods ≡ class_with b.minor b.major b.pool b.flags b.this_class b.super_class b.interfaces b.fields b.methods =
     rw (minor, major, pool, flags, this_class, super_class, interfaces, fields, methods) refl in
     same

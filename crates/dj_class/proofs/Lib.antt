@@ -15,3 +15,5 @@ pub mod FileIsExact
 pub mod FileIsUnique
 pub mod PoolTables
 pub mod PoolTexts
+pub mod PoolReading
+pub mod RestParts

@@ -83,12 +83,12 @@ pub record DescribesClass (raw : Raw) (class : WholeClass) : Type 0 where
   pub minor : class.minor ≡ raw.front.minor
   pub major : class.major ≡ raw.front.major
   pub pool : class.pool ≡ raw.front.pool
-  pub flags : class.flags ≡ raw.rest.flags
-  pub this_class : LeadsTo raw.front.pool raw.rest.this_class class.this_class
-  pub super_class : class.super_class ≡ class_at raw.front.pool raw.rest.super_class
-  pub interfaces : AllZip (LeadsTo raw.front.pool) raw.rest.interfaces class.interfaces
-  pub fields : AllZip (DescribesField raw.front.pool) raw.rest.fields class.fields
-  pub methods : AllZip (DescribesAMethod raw.front.pool) raw.rest.methods class.methods
+  pub flags : class.flags ≡ raw.rest.own.flags
+  pub this_class : LeadsTo raw.front.pool raw.rest.own.this_class class.this_class
+  pub super_class : class.super_class ≡ class_at raw.front.pool raw.rest.own.super_class
+  pub interfaces : AllZip (LeadsTo raw.front.pool) raw.rest.listed.interfaces class.interfaces
+  pub fields : AllZip (DescribesField raw.front.pool) raw.rest.listed.fields class.fields
+  pub methods : AllZip (DescribesAMethod raw.front.pool) raw.rest.listed.methods class.methods
 
 -- the bytes are a class file, one of a major version from `oldest` to 52, and this is its class
 pub record SpellsFile (bytes : List ℕ) (oldest : ℕ) (class : WholeClass) : Type 0 where

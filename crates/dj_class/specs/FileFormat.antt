@@ -23,15 +23,23 @@ pub record Front : Type 0 where
   pub major : ℕ
   pub pool : List Entry
 
--- what follows the pool, by its indices
-pub record Rest : Type 0 where
+-- the flags of a class, and the indices of the class and its superclass
+pub record Own : Type 0 where
   pub flags : ℕ
   pub this_class : ℕ
   pub super_class : ℕ
+
+-- the interfaces, by their indices, the members and the attributes of a class
+pub record Listed : Type 0 where
   pub interfaces : List ℕ
   pub fields : List RawMember
   pub methods : List RawMember
   pub attributes : List Attribute
+
+-- what follows the pool
+pub record Rest : Type 0 where
+  pub own : Own
+  pub listed : Listed
 
 -- a class file by its indices
 pub record Raw : Type 0 where
@@ -52,17 +60,33 @@ front oldest given =
     headed (λ f. f.pool) (pool given) (λ pool.
     exactly (record { minor = minor; major = major; pool = pool }))))
 
--- flags, class, superclass, interfaces, fields, methods and attributes
+-- flags, class and superclass
+abbrev pub plain_own : Layout BrokenKind Own
+plain_own =
+    headed (λ o. o.flags) u2 (λ flags.
+    headed (λ o. o.this_class) u2 (λ this_class.
+    headed (λ o. o.super_class) u2 (λ super_class.
+    exactly (record { flags = flags; this_class = this_class; super_class = super_class }))))
+
+-- interfaces, fields, methods and attributes
+abbrev pub plain_listed : Layout BrokenKind Listed
+plain_listed =
+    headed (λ l. l.interfaces) (counted u2) (λ interfaces.
+    headed (λ l. l.fields) (counted member) (λ fields.
+    headed (λ l. l.methods) (counted member) (λ methods.
+    headed (λ l. l.attributes) (counted attribute) (λ attributes.
+    exactly (record { interfaces = interfaces; fields = fields; methods = methods; attributes = attributes })))))
+
+-- what follows the pool of a file, of such parts
+abbrev pub rest_of : Layout BrokenKind Own → Layout BrokenKind Listed → Layout BrokenKind Rest
+rest_of own listed =
+    headed (λ r. r.own) own (λ first.
+    headed (λ r. r.listed) listed (λ others.
+    exactly (record { own = first; listed = others })))
+
+-- what follows the pool of a file
 abbrev pub plain_rest : Layout BrokenKind Rest
-plain_rest =
-    headed (λ r. r.flags) u2 (λ flags.
-    headed (λ r. r.this_class) u2 (λ this_class.
-    headed (λ r. r.super_class) u2 (λ super_class.
-    headed (λ r. r.interfaces) (counted u2) (λ interfaces.
-    headed (λ r. r.fields) (counted member) (λ fields.
-    headed (λ r. r.methods) (counted member) (λ methods.
-    headed (λ r. r.attributes) (counted attribute) (λ attributes.
-    exactly (record { flags = flags; this_class = this_class; super_class = super_class; interfaces = interfaces; fields = fields; methods = methods; attributes = attributes }))))))))
+plain_rest = rest_of plain_own plain_listed
 
 -- a class file with such a front and such a rest
 abbrev pub file_of : Layout BrokenKind Front → (List Entry → Layout BrokenKind Rest) → Layout BrokenKind Raw
@@ -209,17 +233,30 @@ method pool =
     headed (λ m. m.attributes) (method_attributes pool flags) (λ attributes.
     exactly (record { flags = flags; name = name; descriptor = descriptor; attributes = attributes })))))
 
--- the rest behind this pool
+-- flags, class and superclass behind this pool
+abbrev pub lawful_own : List Entry → Layout BrokenKind Own
+lawful_own pool =
+    headed (λ o. o.flags) (asked u2 HasLawfulFlags kind.Flags) (λ flags.
+    headed (λ o. o.this_class) (asked u2 (IsClassIndex pool) kind.Index) (λ this_class.
+    headed (λ o. o.super_class) (asked u2 (IsSuperIndex pool flags this_class) kind.Index) (λ super_class.
+    exactly (record { flags = flags; this_class = this_class; super_class = super_class }))))
+
+-- classes behind their number
+abbrev pub class_indices : List Entry → Layout BrokenKind (List ℕ)
+class_indices pool = counted (asked u2 (IsClassIndex pool) kind.Index)
+
+-- interfaces, fields, methods and attributes behind this pool
+abbrev pub lawful_listed : List Entry → Layout BrokenKind Listed
+lawful_listed pool =
+    headed (λ l. l.interfaces) (class_indices pool) (λ interfaces.
+    headed (λ l. l.fields) (counted (field pool)) (λ fields.
+    headed (λ l. l.methods) (counted (method pool)) (λ methods.
+    headed (λ l. l.attributes) (counted (named pool)) (λ attributes.
+    exactly (record { interfaces = interfaces; fields = fields; methods = methods; attributes = attributes })))))
+
+-- what follows this pool
 abbrev pub lawful_rest : List Entry → Layout BrokenKind Rest
-lawful_rest pool =
-    headed (λ r. r.flags) (asked u2 HasLawfulFlags kind.Flags) (λ flags.
-    headed (λ r. r.this_class) (asked u2 (IsClassIndex pool) kind.Index) (λ this_class.
-    headed (λ r. r.super_class) (asked u2 (IsSuperIndex pool flags this_class) kind.Index) (λ super_class.
-    headed (λ r. r.interfaces) (counted (asked u2 (IsClassIndex pool) kind.Index)) (λ interfaces.
-    headed (λ r. r.fields) (counted (field pool)) (λ fields.
-    headed (λ r. r.methods) (counted (method pool)) (λ methods.
-    headed (λ r. r.attributes) (counted (named pool)) (λ attributes.
-    exactly (record { flags = flags; this_class = this_class; super_class = super_class; interfaces = interfaces; fields = fields; methods = methods; attributes = attributes }))))))))
+lawful_rest pool = rest_of (lawful_own pool) (lawful_listed pool)
 
 -- what is asked of a class file with this pool: of the pool, which stands first, and then of the rest
 abbrev pub sound : ℕ → List Entry → Layout BrokenKind Raw

@@ -5,6 +5,7 @@ mod entry;
 mod parsed;
 mod pool;
 mod pools;
+mod skipped;
 mod texts;
 
 pub use entry::{Ask, Entry};

@@ -1,12 +1,12 @@
 //! The pool of a class file: entries of one or two indices, up to their count (JVMS 4.4).
 
-ghost use Rattle.std.specs.Prelude.{◌≡◌, ◌≤◌, ◌+◌, IsTrue, IfOk};
+ghost use Rattle.std.specs.Prelude.{◌≡◌, ◌≤◌, ◌+◌, ◌++◌, length, nat_le, IsTrue, IfOk, OnOk};
 ghost use Rattle.std.specs.Option.{option_copied};
 ghost use Rattle.dj_layout.specs.Layout.{Reads};
 ghost use Rattle.dj_layout.specs.Parts.{tested};
 ghost use Rattle.dj_class.specs.declared.class.raw.BrokenKind.TheVariants.{Index};
 ghost use Rattle.dj_class.specs.ClassFile.{u2};
-ghost use Rattle.dj_class.specs.PoolFormat.{behind, content_of, tag_of, places, is_tag, entry_within, entries, pool};
+ghost use Rattle.dj_class.specs.PoolFormat.{behind, content_of, tag_of, places, is_tag, entry_within, spread, entries, pool};
 
 use crate::class::BrokenKind;
 use crate::file::entries::{
@@ -18,7 +18,7 @@ use crate::file::entry::Entry;
 use crate::file::pool::Pool;
 use dj_layout::{Stop, fault_at, u16_at};
 use dj_names::Items;
-use std::alloc::Global;
+use std::alloc::{AllocError, Global};
 
 /// What follows a tag of an entry.
 fn behind_at<'a>(
@@ -62,4 +62,65 @@ fn entry_at<'a>(
 {
     let (tag, rest) = tag_at(room, bytes, end)?;
     behind_at(alloc, given, tag, rest, end)
+}
+
+/// Adds an entry and the indices that it takes, and answers how many they are.
+fn push_entry(found: &mut Items<Entry>, entry: Entry) -> Result<u16, AllocError>
+    ensures pushed { OnOk result (found.new ≡ found.old ++ spread entry) }
+    ensures taken { IfOk result (λ taken. taken ≡ places (tag_of entry)) }
+{
+    let taken = places(entry.tag());
+    found.push(entry)?;
+    if taken == 2 {
+        found.push(Entry::Skip)?;
+    }
+    Ok(taken)
+}
+
+/// The entries from index 1 on, as a list from index 0 on.
+fn entries_at<'a>(
+    alloc: Global,
+    given: Option<&Pool>,
+    count: u16,
+    bytes: &'a [u8],
+    end: usize,
+) -> Result<(Items<Entry>, &'a [u8]), Stop<BrokenKind>>
+    ensures reads { Reads (entries (option_copied given.entry) count) (λ x. (x.0, x.1.now)) end bytes.now result }
+    ensures filled { IfOk result (λ x. length x.0 ≡ count + 1) }
+{
+    let mut found = Items::new(alloc);
+    found.push(Entry::Skip)?;
+    let mut rest = bytes;
+    let mut room = count;
+    while room > 0 {
+        let (entry, after) = entry_at(alloc, given, room, rest, end)?;
+        room -= push_entry(&mut found, entry)?;
+        rest = after;
+    }
+    Ok((found, rest))
+}
+
+/// The count of a pool.
+fn count_at(bytes: &[u8], end: usize) -> Result<(u16, &[u8]), Stop<BrokenKind>>
+    ensures reads { Reads (tested u2 (λ count. nat_le 1 count) Index) (λ x. (x.0, x.1.now)) end bytes.now result }
+{
+    let (count, rest) = u16_at(bytes, end, BrokenKind::Short)?;
+    if count < 1 {
+        return Err(Stop::Fault(fault_at(bytes, end, BrokenKind::Index)));
+    }
+    Ok((count, rest))
+}
+
+/// The pool behind its count; where a pool is given, that is what its indices are looked up in.
+pub fn pool_at<'a>(
+    alloc: Global,
+    given: Option<&Pool>,
+    bytes: &'a [u8],
+    end: usize,
+) -> Result<(Items<Entry>, &'a [u8]), Stop<BrokenKind>>
+    ensures reads { Reads (pool (option_copied given.entry)) (λ x. (x.0, x.1.now)) end bytes.now result }
+{
+    let (count, rest) = count_at(bytes, end)?;
+    let (entries, rest) = entries_at(alloc, given, count - 1, rest, end)?;
+    Ok((entries, rest))
 }
