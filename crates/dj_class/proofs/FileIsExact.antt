@@ -3,7 +3,6 @@ use Rattle.std.proofs.Common.{◌≡◌, ℕ, ◌-◌, ◌==◌, List, ◌∷◌
 use Rattle.std.specs.List.{flat_map}
 use Rattle.dj_layout.specs.Layout.{Layout}
 use Rattle.dj_layout.specs.Exact.{IsExact}
-use Rattle.dj_layout.specs.Passes.{asked}
 use Rattle.dj_layout.proofs.PartsAreExact.{exact-number, exact-exactly, exact-headed, exact-tested, exact-viewed}
 use Rattle.dj_layout.proofs.PassesAreExact.{exact-asked, exact-again, exact-sequence}
 use Rattle.dj_class.specs.declared.class.raw.BrokenKind.{BrokenKind}
@@ -13,9 +12,10 @@ use Rattle.dj_class.specs.declared.class.raw.RawMember.{RawMember}
 use Rattle.dj_class.specs.declared.file.entry.Entry.{Entry}
 use Rattle.dj_class.specs.declared.file.entry.Entry.TheVariants as entry
 use Rattle.dj_class.specs.declared.file.entry.Ask.{Ask}
+use Rattle.dj_class.specs.declared.file.front.Front.{Front}
 use Rattle.dj_class.specs.ClassFile.{u2, counted, attribute, member, magic}
 use Rattle.dj_class.specs.PoolFormat.{Content, Characters, One, Two, asked_number, behind, content_of, tag_of, first_of, second_of, units_of, text, tag_within, entry_within, spell_entry, plain_entries, entries, places_of, entry_with, isnt_skip, spread, pool}
-use Rattle.dj_class.specs.FileFormat.{Front, Own, Listed, Rest, Raw, major, front, plain_own, plain_listed, rest_of, plain_rest, file_of, file, named, counted_in_turn, IsClassIndex, field, method, method_attributes, lawful_own, lawful_listed, lawful_rest, sound}
+use Rattle.dj_class.specs.FileFormat.{Own, Listed, Rest, Raw, major, front, plain_own, plain_listed, rest_of, plain_rest, file_of, file, named, counted_in_turn, class_indices, field, method, method_attributes, lawful_own, lawful_listed, lawful_rest, sound}
 use Rattle.dj_class.proofs.ClassIsExact.{exact-u2, exact-counted, exact-attribute, exact-member, exact-magic}
 use Rattle.dj_class.proofs.Utf8Exact.{exact-utf8}
 
@@ -93,12 +93,12 @@ exact-rest_of own listed own_exact listed_exact =
 exact-plain_rest : IsExact plain_rest
 exact-plain_rest = exact-rest_of _ _ exact-plain_own exact-plain_listed
 
-exact-file_of : (front : Layout BrokenKind Front) (rest : List Entry → Layout BrokenKind Rest) → IsExact front → ((pool : List Entry) → IsExact (rest pool)) → IsExact (file_of front rest)
-exact-file_of front rest exact exacts =
-    exact-headed _ _ _ exact-magic (λ _. exact-headed (λ (f : Raw). f.front) _ _ exact (λ start. exact-headed (λ (f : Raw). f.rest) _ _ (exacts start.pool) (λ others. exact-exactly (record { front = start; rest = others }))))
+exact-file_of : (front : Layout BrokenKind Front) (rest : Layout BrokenKind Rest) → IsExact front → IsExact rest → IsExact (file_of front rest)
+exact-file_of front rest exact rest_exact =
+    exact-headed _ _ _ exact-magic (λ _. exact-headed (λ (f : Raw). f.front) _ _ exact (λ start. exact-headed (λ (f : Raw). f.rest) _ _ rest_exact (λ others. exact-exactly (record { front = start; rest = others }))))
 
 pub exact-file : (oldest : ℕ) → IsExact (file oldest)
-exact-file oldest = exact-file_of _ _ (exact-front oldest None) (λ _. exact-plain_rest)
+exact-file oldest = exact-file_of _ _ (exact-front oldest None) exact-plain_rest
 
 -- ---- the last passes
 
@@ -124,7 +124,7 @@ exact-method pool =
     exact-headed (λ (m : RawMember). m.descriptor) _ _ (exact-asked _ _ _ exact-u2) (λ descriptor.
     exact-headed (λ (m : RawMember). m.attributes) _ _ (exact-method_attributes pool flags) (λ attributes. exact-exactly (record { flags = flags; name = name; descriptor = descriptor; attributes = attributes })))))
 
-exact-classes : (pool : List Entry) → IsExact (counted (asked u2 (IsClassIndex pool) kind.Index))
+pub exact-classes : (pool : List Entry) → IsExact (class_indices pool)
 exact-classes pool = exact-counted _ (exact-asked _ _ _ exact-u2)
 
 exact-lawful_own : (pool : List Entry) → IsExact (lawful_own pool)
@@ -142,4 +142,4 @@ exact-lawful_rest : (pool : List Entry) → IsExact (lawful_rest pool)
 exact-lawful_rest pool = exact-rest_of _ _ (exact-lawful_own pool) (exact-lawful_listed pool)
 
 pub exact-sound : (oldest : ℕ) (pool : List Entry) → IsExact (sound oldest pool)
-exact-sound oldest pool = exact-file_of _ _ (exact-front oldest (Some pool)) exact-lawful_rest
+exact-sound oldest pool = exact-file_of _ _ (exact-front oldest (Some pool)) (exact-lawful_rest pool)

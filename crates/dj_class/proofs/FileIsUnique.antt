@@ -52,8 +52,7 @@ one_name pool index a b first second = cc
 
 one_constant : (pool : List Entry) (contents : List (List ℕ)) (a b : Option Constant) → IsConstant pool contents a → IsConstant pool contents b → a ≡ b
 one_constant pool [] a b first second = first ∙ sym second
-one_constant pool (content ∷ []) a b (i, i_is, first) (j, j_is, second) =
-    first ∙ ap (λ (k : ℕ). option_and_then (constant_of pool) (slice_get pool k)) (whole_unique u2 exact-u2 content i j i_is j_is) ∙ sym second
+one_constant pool (content ∷ []) a b first second = first ∙ sym second
 one_constant pool (content ∷ other ∷ others) a b first second = absurd first
 
 one_thrown : (pool : List Entry) (contents : List (List ℕ)) (a b : List Name) → IsThrown pool contents a → IsThrown pool contents b → a ≡ b

@@ -1,14 +1,18 @@
 -- Parts of a class file that are read one after the other are the whole.
-use Rattle.std.proofs.Common.{◌≡◌, ℕ, List, [], ◌++◌, refl, sym, ap, ◌∙◌, append_assoc, length}
+use Rattle.std.proofs.Common.{◌≡◌, ℕ, List, [], ◌++◌, refl, sym, ap, subst, ◌∙◌, append_assoc, length, ◌==◌, IsTrue, arith}
+use Rattle.std.proofs.lemmas.Bool.Decides.{nat_tests}
 use Rattle.std.proofs.lemmas.List.{append-nil}
 use Rattle.dj_layout.specs.Layout.{Layout, Spells}
 use Rattle.dj_layout.specs.Parts.{run, number}
+use Rattle.dj_layout.specs.Passes.{asked}
 use Rattle.dj_class.specs.declared.class.raw.BrokenKind.{BrokenKind}
 use Rattle.dj_class.specs.declared.class.raw.BrokenKind.TheVariants as kind
 use Rattle.dj_class.specs.declared.class.raw.Attribute.{Attribute}
 use Rattle.dj_class.specs.declared.class.raw.RawMember.{RawMember}
-use Rattle.dj_class.specs.ClassFile.{u2, counted, sized, attribute, member}
-use Rattle.dj_class.specs.FileFormat.{Own, Listed, Rest, plain_own, plain_listed, rest_of}
+use Rattle.dj_class.specs.declared.file.entry.Entry.{Entry}
+use Rattle.dj_class.specs.declared.file.front.Front.{Front}
+use Rattle.dj_class.specs.ClassFile.{u2, counted, sized, attribute, member, magic}
+use Rattle.dj_class.specs.FileFormat.{Own, Listed, Rest, plain_own, plain_listed, rest_of, file_of, HasLawfulFlags, IsClassIndex, IsSuperIndex, lawful_own}
 
 -- the bytes of two, three and four parts in a row
 pub two_texts : (bytes r s a b : List ℕ) → bytes ≡ a ++ r → r ≡ b ++ s → bytes ≡ (a ++ (b ++ [])) ++ s
@@ -55,3 +59,17 @@ listed_spelled bytes r s t u interfaces fields methods attributes p q w z =
 pub rest_spelled : (of_own : Layout BrokenKind Own) (of_listed : Layout BrokenKind Listed) (bytes r s : List ℕ) (own : Own) (listed : Listed) → Spells of_own bytes own r → Spells of_listed r listed s
     → Spells (rest_of of_own of_listed) bytes (record { own = own; listed = listed }) s
 rest_spelled of_own of_listed bytes r s own listed p q = record { fits = (p.fits, (q.fits, refl)); text = two_texts bytes r s (of_own.spell own) (of_listed.spell listed) p.text q.text }
+
+the_magic : (bytes r : List ℕ) (m : ℕ) → Spells magic bytes m r → m ≡ 3405691582
+the_magic bytes r m p = let same : IsTrue (m == 3405691582) = p.fits.1 in grind (arith, nat_tests)
+
+pub file_spelled : (of_front : Layout BrokenKind Front) (of_rest : Layout BrokenKind Rest) (bytes r s t : List ℕ) (m : ℕ) (front : Front) (rest : Rest) → Spells magic bytes m r → Spells of_front r front s → Spells of_rest s rest t
+    → Spells (file_of of_front of_rest) bytes (record { front = front; rest = rest }) t
+file_spelled of_front of_rest bytes r s t m front rest p q w =
+    let is = the_magic bytes r m p in
+    record { fits = (subst (λ (k : ℕ). magic.Fits k) is p.fits, (q.fits, (w.fits, refl))); text = three_texts bytes r s t (magic.spell 3405691582) (of_front.spell front) (of_rest.spell rest) (subst (λ (k : ℕ). bytes ≡ magic.spell k ++ r) is p.text) q.text w.text }
+
+pub lawful_own_spelled : (pool : List Entry) (bytes r s t : List ℕ) (flags this_class super_class : ℕ) → Spells (asked u2 HasLawfulFlags kind.Flags) bytes flags r → Spells (asked u2 (IsClassIndex pool) kind.Index) r this_class s
+    → Spells (asked u2 (IsSuperIndex pool flags this_class) kind.Index) s super_class t → Spells (lawful_own pool) bytes (record { flags = flags; this_class = this_class; super_class = super_class }) t
+lawful_own_spelled pool bytes r s t flags this_class super_class p q w =
+    record { fits = (p.fits, (q.fits, (w.fits, refl))); text = three_texts bytes r s t (u2.spell flags) (u2.spell this_class) (u2.spell super_class) p.text q.text w.text }

@@ -16,10 +16,11 @@ use Rattle.dj_class.specs.declared.class.raw.BrokenKind.TheVariants as kind
 use Rattle.dj_class.specs.declared.class.raw.RawMember.{RawMember}
 use Rattle.dj_class.specs.declared.file.entry.Entry.{Entry}
 use Rattle.dj_class.specs.declared.file.entry.Entry.TheVariants as entry
+use Rattle.dj_class.specs.declared.file.own.OwnNames.{OwnNames}
 use Rattle.dj_class.specs.ClassFile.{u2, counted}
 use Rattle.dj_class.specs.ResolvedClass.{FieldOf, MethodOf}
 use Rattle.dj_class.specs.PoolFormat.{text_at, class_at}
-use Rattle.dj_class.specs.FileFormat.{Raw, LeadsTo, contents_of, file, sound}
+use Rattle.dj_class.specs.FileFormat.{Raw, Own, LeadsTo, index_of, contents_of, file, sound}
 
 -- a class as its file describes it
 pub record WholeClass : Type 0 where
@@ -54,7 +55,7 @@ constant_of pool (entry.InvokeDynamic bootstrap member) = None
 -- the constant that the one ConstantValue leads to, None where there is none (JVMS 4.7.2)
 abbrev pub IsConstant : List Entry → List (List ℕ) → Option Constant → Type 0
 IsConstant pool [] found = found ≡ None
-IsConstant pool (content ∷ []) found = (index : ℕ) × IsWhole u2 content index × (found ≡ option_and_then (constant_of pool) (slice_get pool index))
+IsConstant pool (content ∷ []) found = found ≡ option_and_then (constant_of pool) (slice_get pool (index_of content))
 IsConstant pool (content ∷ other ∷ others) found = ⊥
 
 -- the classes of the one Exceptions, none where there is none (JVMS 4.7.5)
@@ -102,3 +103,9 @@ abbrev pub HasFault : List ℕ → ℕ → Fault BrokenKind → Type 0
 HasFault bytes oldest fault =
     whole.FirstFault (file oldest) kind.Trailing bytes fault
     ⊎ ((raw : Raw) × IsWhole (file oldest) bytes raw × (sound oldest raw.front.pool).Halts (length bytes) bytes fault)
+
+-- what a file says of the class itself, for a class and a superclass of these names
+pub record DescribesOwn (pool : List Entry) (own : Own) (class : OwnNames) : Type 0 where
+  pub flags : class.flags ≡ own.flags
+  pub this_class : LeadsTo pool own.this_class class.this_class
+  pub super_class : class.super_class ≡ class_at pool own.super_class

@@ -1,5 +1,6 @@
 -- A class file as layouts of the same bytes: its parts front to back, and what is asked of them (JVMS 4.1, 4.5 to 4.7).
 use Rattle.std.specs.Prelude.{◌≡◌, ◌⊎◌, ◌↔◌, ℕ, List, [], length, map, filter, Bool, false, ◌&&◌, ◌==◌, nat_le, if◌then◌else◌, Option, Some, None, IsSome, IsSomeAnd, IsBitSet, codes}
+use Rattle.std.specs.Int.{w16, from_be_bytes}
 use Rattle.std.specs.Str.{bytes_eq}
 use Rattle.dj_layout.specs.Layout.{Layout}
 use Rattle.dj_layout.specs.Parts.{exactly, headed, tested}
@@ -14,14 +15,9 @@ use Rattle.dj_class.specs.declared.class.raw.BrokenKind.TheVariants as kind
 use Rattle.dj_class.specs.declared.class.raw.Attribute.{Attribute}
 use Rattle.dj_class.specs.declared.class.raw.RawMember.{RawMember}
 use Rattle.dj_class.specs.declared.file.entry.Entry.{Entry}
+use Rattle.dj_class.specs.declared.file.front.Front.{Front}
 use Rattle.dj_class.specs.ClassFile.{u2, counted, attribute, member, magic}
 use Rattle.dj_class.specs.PoolFormat.{HasTag, IsFieldText, IsMethodText, text_at, class_at, pool}
-
--- what stands before the rest: versions and pool
-pub record Front : Type 0 where
-  pub minor : ℕ
-  pub major : ℕ
-  pub pool : List Entry
 
 -- the flags of a class, and the indices of the class and its superclass
 pub record Own : Type 0 where
@@ -89,16 +85,16 @@ abbrev pub plain_rest : Layout BrokenKind Rest
 plain_rest = rest_of plain_own plain_listed
 
 -- a class file with such a front and such a rest
-abbrev pub file_of : Layout BrokenKind Front → (List Entry → Layout BrokenKind Rest) → Layout BrokenKind Raw
+abbrev pub file_of : Layout BrokenKind Front → Layout BrokenKind Rest → Layout BrokenKind Raw
 file_of front rest =
     headed (λ _. 3405691582) magic (λ _.
     headed (λ f. f.front) front (λ start.
-    headed (λ f. f.rest) (rest start.pool) (λ others.
+    headed (λ f. f.rest) rest (λ others.
     exactly (record { front = start; rest = others }))))
 
 -- the layout of a class file, front to back (JVMS 4.1)
 abbrev pub file : ℕ → Layout BrokenKind Raw
-file oldest = file_of (front oldest None) (λ _. plain_rest)
+file oldest = file_of (front oldest None) plain_rest
 
 -- ---- what is asked of the rest
 
@@ -167,22 +163,33 @@ constant_tag Double = Some 6
 constant_tag (Class name) = if bytes_eq name (codes "java/lang/String") then Some 8 else None
 constant_tag (Array element) = None
 
--- the content of a ConstantValue of a field with this descriptor (JVMS 4.7.2)
-pub record IsConstantValue (pool : List Entry) (descriptor : ℕ) (content : List ℕ) : Type 0 where
+-- the index that two bytes are
+abbrev pub index_of : List ℕ → ℕ
+index_of content = from_be_bytes w16 content
+
+-- an entry of the tag that the constant of a field with this descriptor has
+pub record IsConstantIndex (pool : List Entry) (descriptor index : ℕ) : Type 0 where
   pub units : List ℕ
   pub at_descriptor : text_at pool descriptor ≡ Some units
   pub type : JType
   pub spelled : SpellsDescriptor units (Field type)
-  pub index : ℕ
-  pub content_is : IsWhole u2 content index
   pub tag : ℕ
   pub of_type : constant_tag type ≡ Some tag
   pub there : HasTag pool index tag
 
+-- the content of a ConstantValue of a field with this descriptor: two bytes, the index of its constant (JVMS 4.7.2)
+pub record IsConstantValue (pool : List Entry) (descriptor : ℕ) (content : List ℕ) : Type 0 where
+  pub long : length content ≡ 2
+  pub leads : IsConstantIndex pool descriptor (index_of content)
+
+-- classes behind their number
+abbrev pub class_indices : List Entry → Layout BrokenKind (List ℕ)
+class_indices pool = counted (asked u2 (IsClassIndex pool) kind.Index)
+
 -- the content of an Exceptions: classes behind their number (JVMS 4.7.5)
 pub record IsExceptions (pool : List Entry) (content : List ℕ) : Type 0 where
   pub indices : List ℕ
-  pub content_is : IsWhole (counted (asked u2 (IsClassIndex pool) kind.Index)) content indices
+  pub content_is : IsWhole (class_indices pool) content indices
 
 -- an attribute of a field that stands behind these: a ConstantValue is the first, and right
 pub record IsLawfulInField (pool : List Entry) (descriptor : ℕ) (before : List Attribute) (this : Attribute) : Type 0 where
@@ -241,10 +248,6 @@ lawful_own pool =
     headed (λ o. o.super_class) (asked u2 (IsSuperIndex pool flags this_class) kind.Index) (λ super_class.
     exactly (record { flags = flags; this_class = this_class; super_class = super_class }))))
 
--- classes behind their number
-abbrev pub class_indices : List Entry → Layout BrokenKind (List ℕ)
-class_indices pool = counted (asked u2 (IsClassIndex pool) kind.Index)
-
 -- interfaces, fields, methods and attributes behind this pool
 abbrev pub lawful_listed : List Entry → Layout BrokenKind Listed
 lawful_listed pool =
@@ -260,4 +263,4 @@ lawful_rest pool = rest_of (lawful_own pool) (lawful_listed pool)
 
 -- what is asked of a class file with this pool: of the pool, which stands first, and then of the rest
 abbrev pub sound : ℕ → List Entry → Layout BrokenKind Raw
-sound oldest pool = file_of (front oldest (Some pool)) lawful_rest
+sound oldest pool = file_of (front oldest (Some pool)) (lawful_rest pool)

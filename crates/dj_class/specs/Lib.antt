@@ -8,3 +8,4 @@ pub mod Described
 -- What the crate keeps to itself.
 pub mod FirstParts
 pub mod PoolTable
+pub mod FileParts

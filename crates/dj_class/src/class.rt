@@ -16,6 +16,7 @@ pub(crate) use names::is_class_name;
 use dj_layout::Stop;
 use dj_names::{ClassName, Descriptor, Field, Items, Units};
 pub use pool::has_attribute;
+pub(crate) use raw::magic_at;
 use raw::read_raw;
 pub use raw::{Attribute, BrokenKind, Entry, attributes_at};
 use resolve::class_of;

@@ -1,7 +1,11 @@
 //! Class files, whole (JVMS 4): what they are, and their reader.
 
+mod attributes;
 mod entries;
 mod entry;
+mod flags;
+mod front;
+mod own;
 mod parsed;
 mod pool;
 mod pools;

@@ -155,7 +155,7 @@ fn body_at(alloc: Global, bytes: &[u8], end: usize) -> Result<(RawFile, &[u8]), 
 }
 
 /// The magic number.
-fn magic_at(bytes: &[u8], end: usize) -> Result<(u32, &[u8]), Stop<BrokenKind>>
+pub fn magic_at(bytes: &[u8], end: usize) -> Result<(u32, &[u8]), Stop<BrokenKind>>
     ensures reads { Reads magic (λ x. (x.0, x.1.now)) end bytes.now result }
 {
     match u32_at(bytes, end, BrokenKind::Short)? {

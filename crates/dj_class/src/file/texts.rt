@@ -11,7 +11,7 @@ use crate::file::pool::Pool;
 use dj_names::{Descriptor, JType, Units};
 
 /// Whether an entry of this tag is at an index.
-fn has_tag(pool: &Pool, index: u16, tag: u8) -> bool
+pub fn has_tag(pool: &Pool, index: u16, tag: u8) -> bool
     ensures exact { IsTrue result ↔ HasTag pool.now index tag }
 {
     match pool.entry_at(index) {
