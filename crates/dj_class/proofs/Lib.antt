@@ -17,3 +17,4 @@ pub mod PoolTables
 pub mod PoolTexts
 pub mod PoolReading
 pub mod RestParts
+pub mod AttributeContents
