@@ -8,13 +8,14 @@ use Rattle.std.proofs.lemmas.Slice.Eq.{bytes_eq-Decides}
 use Rattle.dj_layout.specs.declared.fault.Stop.{Stop}
 use Rattle.dj_layout.specs.Layout.{Layout, Spells, SpellsSome, Stops}
 use Rattle.dj_layout.specs.Passes.{sequence}
+use Rattle.dj_layout.proofs.PartsAreTotal.{together}
 use Rattle.dj_layout.proofs.Sequences.{IsRead, read_none, read_more, read_stop, read_all}
 use Rattle.dj_class.specs.declared.class.raw.BrokenKind.{BrokenKind}
 use Rattle.dj_class.specs.declared.class.raw.Attribute.{Attribute}
 use Rattle.dj_class.specs.declared.file.entry.Entry.{Entry}
-use Rattle.dj_class.specs.ClassFile.{attribute}
+use Rattle.dj_class.specs.ClassFile.{u2, attribute}
 use Rattle.dj_class.specs.PoolFormat.{text_at}
-use Rattle.dj_class.specs.FileFormat.{is_name, contents_of}
+use Rattle.dj_class.specs.FileFormat.{is_name, contents_of, counted_in_turn}
 
 contents-append : (pool : List Entry) (name : List ℕ) (xs ys : List Attribute) → contents_of pool name (xs ++ ys) ≡ contents_of pool name xs ++ contents_of pool name ys
 contents-append pool name xs ys =
@@ -86,3 +87,17 @@ turn_all next Means count i bytes rest found h is = record {
   spells = read_all attribute.spell (λ (xs : List Attribute). length xs == count) next bytes rest h.items h.read (all count (length h.items) (omega (arith, h.long)));
   means = h.means;
 }
+
+same_length : (k n : ℕ) → IsTrue (k == n) → k ≡ n
+same_length k n is = grind (arith, nat_tests)
+
+-- attributes in turn behind their number
+pub turn_counted : {B : Type 0} (next : List Attribute → Layout BrokenKind Attribute) (Means : List Attribute → B → Type 0) (n : ℕ) (bytes r s : List ℕ) (found : B) → Spells u2 bytes n r
+    → SpellsSome (sequence attribute.spell (λ (xs : List Attribute). length xs == n) next) Means r found s → SpellsSome (counted_in_turn next) Means bytes found s
+turn_counted next Means n bytes r s found count items =
+    let e = same_length (length items.value) n items.spells.fits.1 in
+    record {
+      value = items.value;
+      spells = together length u2 (λ (k : ℕ). sequence attribute.spell (λ (xs : List Attribute). length xs == k) next) n items.value bytes r s e count items.spells;
+      means = items.means;
+    }

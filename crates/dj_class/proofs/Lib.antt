@@ -18,3 +18,4 @@ pub mod PoolTexts
 pub mod PoolReading
 pub mod RestParts
 pub mod AttributeContents
+pub mod MemberAttributes

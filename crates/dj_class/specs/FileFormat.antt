@@ -216,20 +216,28 @@ HasBodyAs pool flags attributes = (contents_of pool (codes "Code") attributes �
 abbrev pub member_name : List Entry → Layout BrokenKind ℕ
 member_name pool = asked u2 (IsTextIndex pool) kind.Index
 
+-- an attribute of a field, behind these
+abbrev pub lawful_in_field : List Entry → ℕ → List Attribute → Layout BrokenKind Attribute
+lawful_in_field pool descriptor before = asked (named pool) (IsLawfulInField pool descriptor before) kind.Attribute
+
+-- an attribute of a method, behind these
+abbrev pub lawful_in_method : List Entry → List Attribute → Layout BrokenKind Attribute
+lawful_in_method pool before = asked (named pool) (IsLawfulInMethod pool before) kind.Attribute
+
 -- a field (JVMS 4.5)
 abbrev pub field : List Entry → Layout BrokenKind RawMember
 field pool =
     headed (λ m. m.flags) (asked u2 HasFieldFlags kind.Flags) (λ flags.
     headed (λ m. m.name) (member_name pool) (λ name.
     headed (λ m. m.descriptor) (asked u2 (λ index. IsSomeAnd (text_at pool index) IsFieldText) kind.Descriptor) (λ descriptor.
-    headed (λ m. m.attributes) (counted_in_turn (λ before. asked (named pool) (IsLawfulInField pool descriptor before) kind.Attribute)) (λ attributes.
+    headed (λ m. m.attributes) (counted_in_turn (lawful_in_field pool descriptor)) (λ attributes.
     exactly (record { flags = flags; name = name; descriptor = descriptor; attributes = attributes })))))
 
 -- the attributes of a method: whether there is a Code is looked at first
 abbrev pub method_attributes : List Entry → ℕ → Layout BrokenKind (List Attribute)
 method_attributes pool flags =
     again (asked (counted attribute) (HasBodyAs pool flags) kind.Attribute)
-    (λ _. counted_in_turn (λ before. asked (named pool) (IsLawfulInMethod pool before) kind.Attribute))
+    (λ _. counted_in_turn (lawful_in_method pool))
 
 -- a method (JVMS 4.6)
 abbrev pub method : List Entry → Layout BrokenKind RawMember

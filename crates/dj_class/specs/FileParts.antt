@@ -1,12 +1,18 @@
 -- What the functions that read a class file promise each other.
-use Rattle.std.specs.Prelude.{◌≡◌, ℕ, List, Result, Ok, Err}
+use Rattle.std.specs.Prelude.{◌≡◌, ℕ, List, [], ◌∷◌, Option, Some, None, Result, Ok, Err, codes, slice_get}
+use Rattle.std.specs.Option.{option_and_then, option_to_list}
 use Rattle.dj_layout.specs.declared.fault.Stop.{Stop}
 use Rattle.dj_layout.specs.Layout.{Stops}
 use Rattle.dj_layout.specs.Whole.{IsWhole, FirstFault}
 use Rattle.dj_class.specs.declared.class.raw.BrokenKind.{BrokenKind}
 use Rattle.dj_class.specs.declared.class.raw.BrokenKind.TheVariants as kind
 use Rattle.dj_class.specs.declared.file.front.Front.{Front}
-use Rattle.dj_class.specs.FileFormat.{Raw, file}
+use Rattle.dj_class.specs.declared.class.raw.Attribute.{Attribute}
+use Rattle.dj_class.specs.declared.file.entry.Entry.{Entry}
+use Rattle.dj_names.specs.declared.members.Constant.{Constant}
+use Rattle.dj_class.specs.FileFormat.{Raw, file, contents_of, index_of}
+use Rattle.dj_class.specs.Described.{constant_of, IsThrown}
+use Rattle.dj_names.specs.Headers.{Name}
 
 -- the bytes are laid out as a class file with this front
 pub record HasFront (bytes : List ℕ) (oldest : ℕ) (front : Front) : Type 0 where
@@ -18,3 +24,26 @@ pub record HasFront (bytes : List ℕ) (oldest : ℕ) (front : Front) : Type 0 w
 abbrev pub ReadsFront : List ℕ → ℕ → Result Front (Stop BrokenKind) → Type 0
 ReadsFront bytes oldest (Ok front) = HasFront bytes oldest front
 ReadsFront bytes oldest (Err why) = Stops (λ _. FirstFault (file oldest) kind.Trailing) 0 bytes why
+
+-- the index of the constant that these attributes of a field have, None where they have none
+abbrev pub HasConstantIndex : List Entry → List Attribute → Option ℕ → Type 0
+HasConstantIndex pool attributes None = contents_of pool (codes "ConstantValue") attributes ≡ []
+HasConstantIndex pool attributes (Some index) = (content : List ℕ) × (contents_of pool (codes "ConstantValue") attributes ≡ content ∷ []) × (index ≡ index_of content)
+
+-- the constant at an index, if there is an index
+abbrev pub constant_at : List Entry → Option ℕ → Option Constant
+constant_at pool found = option_and_then (λ index. option_and_then (constant_of pool) (slice_get pool index)) found
+
+-- the content of the Code among these attributes, None where there is none
+abbrev pub HasCode : List Entry → List Attribute → Option (List ℕ) → Type 0
+HasCode pool attributes code = contents_of pool (codes "Code") attributes ≡ option_to_list code
+
+-- the classes of the Exceptions among these attributes, None where there is none
+abbrev pub HasExceptions : List Entry → List Attribute → Option (List Name) → Type 0
+HasExceptions pool attributes None = contents_of pool (codes "Exceptions") attributes ≡ []
+HasExceptions pool attributes (Some thrown) = (content : List ℕ) × (contents_of pool (codes "Exceptions") attributes ≡ content ∷ []) × IsThrown pool (content ∷ []) thrown
+
+-- what is found among these attributes of a method
+pub record HasFound (pool : List Entry) (attributes : List Attribute) (code : Option (List ℕ)) (thrown : Option (List Name)) : Type 0 where
+  pub code_is : HasCode pool attributes code
+  pub thrown_are : HasExceptions pool attributes thrown

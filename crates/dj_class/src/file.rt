@@ -1,6 +1,8 @@
 //! Class files, whole (JVMS 4): what they are, and their reader.
 
 mod attributes;
+mod bodies;
+mod constants;
 mod entries;
 mod entry;
 mod flags;

@@ -10,7 +10,8 @@ ghost use Rattle.dj_class.specs.declared.class.raw.BrokenKind.TheVariants.{Attri
 ghost use Rattle.dj_class.specs.ClassFile.{attribute};
 ghost use Rattle.dj_class.specs.PoolFormat.{text_at, HasTag};
 ghost use Rattle.dj_class.specs.FileFormat.{named, contents_of, constant_tag, index_of, IsConstantIndex, IsConstantValue, IsExceptions, IsLawfulInField, IsLawfulInMethod};
-ghost use Rattle.dj_class.specs.Described.{constant_of, IsConstant, IsThrown};
+ghost use Rattle.dj_class.specs.Described.{constant_of};
+ghost use Rattle.dj_class.specs.FileParts.{constant_at};
 
 use crate::class::BrokenKind;
 use crate::file::entry::Entry;
@@ -21,7 +22,7 @@ use dj_names::{Constant, Descriptor, JType, is_word};
 use std::alloc::{AllocError, Global};
 
 /// An attribute: the index of its name, and its content.
-fn attribute_at(bytes: &[u8], end: usize) -> Result<((u16, &[u8]), &[u8]), Stop<BrokenKind>>
+pub fn attribute_at(bytes: &[u8], end: usize) -> Result<((u16, &[u8]), &[u8]), Stop<BrokenKind>>
     ensures reads { Reads attribute (λ x. (record { name = x.0.0; content = x.0.1.now }, x.1.now)) end bytes.now result }
 {
     let (name, rest) = u16_at(bytes, end, BrokenKind::Short)?;
@@ -46,7 +47,7 @@ pub fn named_at<'a>(
 }
 
 /// Whether the text at an index is this name.
-fn is_name(pool: &Pool, index: u16, name: &str) -> bool
+pub fn is_name(pool: &Pool, index: u16, name: &str) -> bool
     ensures exact { IsTrue result ↔ (text_at pool.now index ≡ Some name.now) }
 {
     match pool.text_at(index) {
@@ -101,14 +102,17 @@ fn index_of(content: &[u8]) -> Option<u16>
     }
 }
 
-/// Whether the content is that of a ConstantValue of a field with this descriptor.
-fn is_constant_value(pool: &Pool, descriptor: u16, content: &[u8]) -> bool
-    ensures exact { IsTrue result ↔ IsConstantValue pool.now descriptor content.now }
+/// The index that is the content of a ConstantValue of a field with this descriptor.
+pub fn constant_index(pool: &Pool, descriptor: u16, content: &[u8]) -> Option<u16>
+    ensures some { IfSome result (λ index. index ≡ index_of content.now) }
+    ensures right { IfSome result (λ index. IsConstantValue pool.now descriptor content.now) }
+    ensures none { IfNone result (¬ IsConstantValue pool.now descriptor content.now) }
 {
-    match index_of(content) {
-        Some(index) => is_constant_index(pool, descriptor, index),
-        None => false,
+    let index = index_of(content)?;
+    if !is_constant_index(pool, descriptor, index) {
+        return None;
     }
+    Some(index)
 }
 
 /// The constant of an entry.
@@ -141,14 +145,17 @@ fn constant_of(
     }
 }
 
-/// The constant at an index.
-fn constant_at(
+/// The constant at an index, if there is an index.
+pub fn constant_at(
     alloc: Global,
     pool: &Pool,
-    index: u16,
+    found: Option<u16>,
 ) -> Result<Option<Constant>, AllocError>
-    ensures constant { IfOk result (λ found. found ≡ option_and_then (constant_of pool.now) (slice_get pool.now index)) }
+    ensures constant { IfOk result (λ constant. constant ≡ constant_at pool.now found) }
 {
+    let Some(index) = found else {
+        return Ok(None);
+    };
     match pool.entry_at(index) {
         Some(entry) => constant_of(alloc, pool, entry),
         None => Ok(None),
