@@ -19,3 +19,5 @@ pub mod PoolReading
 pub mod RestParts
 pub mod AttributeContents
 pub mod MemberAttributes
+pub mod BodyAttributes
+pub mod FileIsFiner

@@ -1,5 +1,6 @@
 -- What the functions that read a class file promise each other.
-use Rattle.std.specs.Prelude.{◌≡◌, ℕ, List, [], ◌∷◌, Option, Some, None, Result, Ok, Err, codes, slice_get}
+use Rattle.std.specs.Prelude.{◌≡◌, ◌↔◌, ℕ, Bool, IsTrue, List, [], ◌∷◌, Option, Some, None, Result, Ok, Err, codes, slice_get}
+use Rattle.std.specs.List.{AllZip}
 use Rattle.std.specs.Option.{option_and_then, option_to_list}
 use Rattle.dj_layout.specs.declared.fault.Stop.{Stop}
 use Rattle.dj_layout.specs.Layout.{Stops}
@@ -10,8 +11,10 @@ use Rattle.dj_class.specs.declared.file.front.Front.{Front}
 use Rattle.dj_class.specs.declared.class.raw.Attribute.{Attribute}
 use Rattle.dj_class.specs.declared.file.entry.Entry.{Entry}
 use Rattle.dj_names.specs.declared.members.Constant.{Constant}
-use Rattle.dj_class.specs.FileFormat.{Raw, file, contents_of, index_of}
-use Rattle.dj_class.specs.Described.{constant_of, IsThrown}
+use Rattle.dj_class.specs.FileFormat.{Listed, Rest, Raw, LeadsTo, file, contents_of, index_of}
+use Rattle.dj_class.specs.declared.file.own.OwnNames.{OwnNames}
+use Rattle.dj_class.specs.ResolvedClass.{FieldOf, MethodOf}
+use Rattle.dj_class.specs.Described.{constant_of, IsThrown, DescribesField, DescribesAMethod, DescribesOwn}
 use Rattle.dj_names.specs.Headers.{Name}
 
 -- the bytes are laid out as a class file with this front
@@ -43,7 +46,28 @@ abbrev pub HasExceptions : List Entry → List Attribute → Option (List Name) 
 HasExceptions pool attributes None = contents_of pool (codes "Exceptions") attributes ≡ []
 HasExceptions pool attributes (Some thrown) = (content : List ℕ) × (contents_of pool (codes "Exceptions") attributes ≡ content ∷ []) × IsThrown pool (content ∷ []) thrown
 
--- what is found among these attributes of a method
-pub record HasFound (pool : List Entry) (attributes : List Attribute) (code : Option (List ℕ)) (thrown : Option (List Name)) : Type 0 where
-  pub code_is : HasCode pool attributes code
-  pub thrown_are : HasExceptions pool attributes thrown
+-- the code and the classes that are found among these attributes of a method
+pub record HasFound (pool : List Entry) (attributes : List Attribute) (found : Option (List ℕ) × Option (List Name)) : Type 0 where
+  pub code_is : HasCode pool attributes found.0
+  pub thrown_are : HasExceptions pool attributes found.1
+
+-- whether there is no Code among these attributes
+abbrev pub HasNoCode : List Entry → List Attribute → Bool → Type 0
+HasNoCode pool attributes none = IsTrue none ↔ (contents_of pool (codes "Code") attributes ≡ [])
+
+-- interfaces, fields and methods
+pub record MembersOf : Type 0 where
+  pub interfaces : List Name
+  pub fields : List FieldOf
+  pub methods : List MethodOf
+
+-- the interfaces, fields and methods that a file describes
+pub record DescribesListed (pool : List Entry) (listed : Listed) (members : MembersOf) : Type 0 where
+  pub interfaces : AllZip (LeadsTo pool) listed.interfaces members.interfaces
+  pub fields : AllZip (DescribesField pool) listed.fields members.fields
+  pub methods : AllZip (DescribesAMethod pool) listed.methods members.methods
+
+-- what a file describes behind its pool
+pub record DescribesRest (pool : List Entry) (rest : Rest) (found : OwnNames × MembersOf) : Type 0 where
+  pub own : DescribesOwn pool rest.own found.0
+  pub listed : DescribesListed pool rest.listed found.1
