@@ -21,3 +21,4 @@ pub mod AttributeContents
 pub mod MemberAttributes
 pub mod BodyAttributes
 pub mod FileIsFiner
+pub mod Members

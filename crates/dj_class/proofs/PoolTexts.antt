@@ -1,6 +1,7 @@
 -- Which kind of descriptor a text is, told from what is read of it.
-use Rattle.std.proofs.Common.{◌≡◌, ◌↔◌, ℕ, List, Option, Some, None, Bool, true, false, IsTrue, IsSomeAnd, refl, sym, ap, ◌∙◌}
+use Rattle.std.proofs.Common.{◌≡◌, ◌↔◌, ℕ, List, Option, Some, None, Bool, true, false, IsTrue, IsSomeAnd, IfNone, Bor, refl, sym, ap, ◌∙◌}
 use Rattle.std.proofs.lemmas.Bool.{false≢true}
+use Rattle.std.specs.Option.{option_copied}
 use Rattle.dj_names.specs.declared.types.JType as code
 use Rattle.dj_names.specs.declared.descriptor.Descriptor as code_descriptor
 use Rattle.dj_names.specs.declared.descriptor.Descriptor.TheVariants as variants
@@ -13,7 +14,7 @@ use Rattle.dj_class.specs.FileFormat.{IsConstantIndex, constant_tag}
 use Rattle.dj_class.specs.PoolTable.{IsReadOf, is_array_type}
 
 -- characters of which nothing is read are no descriptor
-no_text : (units : Option (List ℕ)) (P : List ℕ → Type 0) → ((these : List ℕ) → P these → (d : Descriptor) × SpellsDescriptor these d) → IsReadOf units None → IsSomeAnd units P → ⊥
+pub no_text : (units : Option (List ℕ)) (P : List ℕ → Type 0) → ((these : List ℕ) → P these → (d : Descriptor) × SpellsDescriptor these d) → IsReadOf units None → IsSomeAnd units P → ⊥
 no_text None P spelled none is = absurd is
 no_text (Some these) P spelled none is = let d = spelled these is in none d.0 d.1
 
@@ -39,7 +40,8 @@ some_array : (units : Option (List ℕ)) → IsSomeAnd units IsArrayText → (t 
 some_array None is = absurd is
 some_array (Some these) is = (is.element, is.spelled)
 
-method_is_no_field : (units : Option (List ℕ)) (found : code_descriptor.Descriptor) (parameters : List code.JType) (result : Option code.JType) → found ≡ variants.Method parameters result → IsReadOf units (Some found)
+-- a method's descriptor is no field's
+pub method_is_no_field : (units : Option (List ℕ)) (found : code_descriptor.Descriptor) (parameters : List code.JType) (result : Option code.JType) → found ≡ variants.Method parameters result → IsReadOf units (Some found)
     → IsSomeAnd units IsFieldText → ⊥
 method_is_no_field units found parameters result is read field =
     let f = some_field units field in
@@ -124,3 +126,8 @@ field_constant pool descriptor index found kind (Some tag) is e read tag_is tell
   let one : Some tag ≡ Some h.tag = tag_is ∙ ap constant_tag alike ∙ h.of_type in
   let tags : tag ≡ h.tag = cc in tells.1 (rw tags h.there),
 )
+
+-- where a method's descriptor is told there is one
+pub some_method : (units : Option (List ℕ)) (found : Option (Bor code_descriptor.Descriptor)) → IsReadOf units (option_copied found) → IsSomeAnd units IsMethodText → IfNone found (IsSomeAnd units IsMethodText → ⊥)
+some_method units None read is = absurd (false≢true ((no_method units read).1 is))
+some_method units (Some found) read is = tt

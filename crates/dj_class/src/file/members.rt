@@ -4,9 +4,10 @@ ghost use Rattle.std.specs.Prelude.{◌≡◌, [], Some, IsSomeAnd, IfOk, IfSome
 ghost use Rattle.std.specs.Option.{option_copied, unwrap_or};
 ghost use Rattle.dj_layout.specs.Layout.{Reads, ReadsAs};
 ghost use Rattle.dj_layout.specs.Passes.{asked};
-ghost use Rattle.dj_names.specs.Types.{Field, view_type, view_descriptor};
+ghost use Rattle.dj_names.specs.Types as types;
+ghost use Rattle.dj_names.specs.Types.{view_type, view_descriptor};
 ghost use Rattle.dj_names.specs.Descriptors.{SpellsDescriptor};
-ghost use Rattle.dj_class.specs.declared.class.raw.BrokenKind.TheVariants.{Flags, Descriptor};
+ghost use Rattle.dj_class.specs.declared.class.raw.BrokenKind.TheVariants as kind;
 ghost use Rattle.dj_class.specs.ClassFile.{u2};
 ghost use Rattle.dj_class.specs.FirstForm.{view_field, view_method};
 ghost use Rattle.dj_class.specs.PoolFormat.{text_at, IsFieldText, IsMethodText};
@@ -25,7 +26,7 @@ use std::alloc::{AllocError, Global};
 
 /// The flags of a field.
 fn field_flags_at(bytes: &[u8], end: usize) -> Result<(u16, &[u8]), Stop<BrokenKind>>
-    ensures reads { Reads (asked u2 HasFieldFlags Flags) (λ x. (x.0, x.1.now)) end bytes.now result }
+    ensures reads { Reads (asked u2 HasFieldFlags kind.Flags) (λ x. (x.0, x.1.now)) end bytes.now result }
 {
     let (flags, rest) = u16_at(bytes, end, BrokenKind::Short)?;
     if !are_field_flags(flags) {
@@ -36,7 +37,7 @@ fn field_flags_at(bytes: &[u8], end: usize) -> Result<(u16, &[u8]), Stop<BrokenK
 
 /// The flags of a method.
 fn method_flags_at(bytes: &[u8], end: usize) -> Result<(u16, &[u8]), Stop<BrokenKind>>
-    ensures reads { Reads (asked u2 IsOneAccess Flags) (λ x. (x.0, x.1.now)) end bytes.now result }
+    ensures reads { Reads (asked u2 IsOneAccess kind.Flags) (λ x. (x.0, x.1.now)) end bytes.now result }
 {
     let (flags, rest) = u16_at(bytes, end, BrokenKind::Short)?;
     if !are_one_access(flags) {
@@ -63,11 +64,11 @@ fn name_at<'p, 'b>(
 
 /// The type that the text at an index spells, if it is a field's descriptor.
 fn field_type_of(pool: &Pool, index: u16) -> Option<&JType>
-    ensures some { IfSome result (λ kind. IsSomeAnd (text_at pool.now index) (λ units. SpellsDescriptor units (Field (view_type kind.now)))) }
+    ensures some { IfSome result (λ found. IsSomeAnd (text_at pool.now index) (λ units. SpellsDescriptor units (types.Field (view_type found.now)))) }
     ensures none { IfNone result (¬ IsSomeAnd (text_at pool.now index) IsFieldText) }
 {
     match pool.descriptor_at(index) {
-        Some(Descriptor::Field(kind)) => Some(kind),
+        Some(Descriptor::Field(found)) => Some(found),
         Some(Descriptor::Method { .. }) => None,
         None => None,
     }
@@ -91,12 +92,12 @@ fn field_type_at<'p, 'b>(
     bytes: &'b [u8],
     end: usize,
 ) -> Result<((u16, &'p JType), &'b [u8]), Stop<BrokenKind>>
-    ensures reads { Reads (asked u2 (λ index. IsSomeAnd (text_at pool.now index) IsFieldText) Descriptor) (λ x. (x.0.0, x.1.now)) end bytes.now result }
-    ensures spelled { IfOk result (λ x. IsSomeAnd (text_at pool.now x.0.0) (λ units. SpellsDescriptor units (Field (view_type x.0.1.now)))) }
+    ensures reads { Reads (asked u2 (λ index. IsSomeAnd (text_at pool.now index) IsFieldText) kind.Descriptor) (λ x. (x.0.0, x.1.now)) end bytes.now result }
+    ensures spelled { IfOk result (λ x. IsSomeAnd (text_at pool.now x.0.0) (λ units. SpellsDescriptor units (types.Field (view_type x.0.1.now)))) }
 {
     let (index, rest) = u16_at(bytes, end, BrokenKind::Short)?;
     match field_type_of(pool, index) {
-        Some(kind) => Ok(((index, kind), rest)),
+        Some(found) => Ok(((index, found), rest)),
         None => Err(Stop::Fault(fault_at(bytes, end, BrokenKind::Descriptor))),
     }
 }
@@ -107,7 +108,7 @@ fn method_descriptor_at<'p, 'b>(
     bytes: &'b [u8],
     end: usize,
 ) -> Result<((u16, &'p Descriptor), &'b [u8]), Stop<BrokenKind>>
-    ensures reads { Reads (asked u2 (λ index. IsSomeAnd (text_at pool.now index) IsMethodText) Descriptor) (λ x. (x.0.0, x.1.now)) end bytes.now result }
+    ensures reads { Reads (asked u2 (λ index. IsSomeAnd (text_at pool.now index) IsMethodText) kind.Descriptor) (λ x. (x.0.0, x.1.now)) end bytes.now result }
     ensures spelled { IfOk result (λ x. IsSomeAnd (text_at pool.now x.0.0) (λ units. SpellsDescriptor units (view_descriptor x.0.1.now))) }
 {
     let (index, rest) = u16_at(bytes, end, BrokenKind::Short)?;
@@ -128,10 +129,10 @@ pub fn field_at<'a>(
 {
     let (flags, rest) = field_flags_at(bytes, end)?;
     let ((_index, name), rest) = name_at(pool, rest, end)?;
-    let ((descriptor, kind), rest) = field_type_at(pool, rest, end)?;
+    let ((descriptor, spelled), rest) = field_type_at(pool, rest, end)?;
     let (constant, rest) = field_attributes_at(alloc, pool, descriptor, rest, end)?;
     let name = name.copy(alloc)?;
-    let descriptor = kind.copy(alloc)?;
+    let descriptor = spelled.copy(alloc)?;
     Ok((
         Field {
             flags,
