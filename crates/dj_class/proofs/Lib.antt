@@ -22,3 +22,4 @@ pub mod MemberAttributes
 pub mod BodyAttributes
 pub mod FileIsFiner
 pub mod Members
+pub mod ListedParts

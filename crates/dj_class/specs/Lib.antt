@@ -9,3 +9,4 @@ pub mod Described
 pub mod FirstParts
 pub mod PoolTable
 pub mod FileParts
+pub mod FileViews

@@ -7,6 +7,7 @@ mod entries;
 mod entry;
 mod flags;
 mod front;
+mod listed;
 mod members;
 mod own;
 mod parsed;
