@@ -1,7 +1,7 @@
 -- One more attribute of a method.
-use Rattle.std.proofs.Common.{◌≡◌, ◌↔◌, IsTrue, ◌+◌, ℕ, List, [], ◌∷◌, ◌++◌, length, nat_eq, Option, Some, None, Bool, false, is_some, codes, refl, sym, ap, ◌∙◌, inl}
+use Rattle.std.proofs.Common.{◌≡◌, ◌↔◌, IsTrue, ◌+◌, ℕ, List, [], ◌∷◌, ◌++◌, length, nat_eq, Option, Some, None, Bool, false, is_some, codes, sym, ap, ◌∙◌}
 use Rattle.std.specs.List.{AllZip}
-use Rattle.std.specs.Option.{option_to_list, option_copied}
+use Rattle.std.specs.Option.{option_copied}
 use Rattle.std.proofs.Common.{Bor}
 use Rattle.std.proofs.lemmas.Bool.{false≢true}
 use Rattle.dj_layout.specs.declared.fault.Fault.{Fault}

@@ -1,9 +1,6 @@
 -- What tables of a pool tell.
-use Rattle.std.proofs.Common.{◌≡◌, ◌↔◌, ℕ, zero, suc, ◌+◌, ◌<◌, List, [], ◌∷◌, ◌++◌, length, get_or, take, Bool, false, IsTrue, IsSomeAnd}
-use Rattle.std.specs.List.{AllZip}
+use Rattle.std.proofs.Common.{◌↔◌, ℕ, zero, suc, List, [], ◌∷◌, get_or, Bool, false, IsTrue, IsSomeAnd}
 use Rattle.std.proofs.lemmas.Bool.{false≢true}
-use Rattle.std.proofs.lemmas.List.{take_more}
-use Rattle.std.proofs.lemmas.Slice.Zip.{all_zipped_more}
 use Rattle.dj_class.specs.declared.class.raw.Entry.{Entry}
 use Rattle.dj_class.specs.ResolvedClass.{IsClassOrArray, text_at}
 use Rattle.dj_class.specs.FirstParts.{IsNameTable}

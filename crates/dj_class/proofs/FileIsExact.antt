@@ -1,5 +1,5 @@
 -- A class file reads in one way, in each pass.
-use Rattle.std.proofs.Common.{◌≡◌, ℕ, ◌-◌, ◌==◌, List, ◌∷◌, Option, None, Some, filter, length, refl}
+use Rattle.std.proofs.Common.{◌≡◌, ℕ, ◌-◌, List, ◌∷◌, Option, None, Some, filter, length, refl}
 use Rattle.std.specs.List.{flat_map}
 use Rattle.dj_layout.specs.Layout.{Layout}
 use Rattle.dj_layout.specs.Exact.{IsExact}
@@ -13,7 +13,7 @@ use Rattle.dj_class.specs.declared.file.entry.Entry.{Entry}
 use Rattle.dj_class.specs.declared.file.entry.Entry.TheVariants as entry
 use Rattle.dj_class.specs.declared.file.entry.Ask.{Ask}
 use Rattle.dj_class.specs.declared.file.front.Front.{Front}
-use Rattle.dj_class.specs.ClassFile.{u2, counted, attribute, member, magic}
+use Rattle.dj_class.specs.ClassFile.{u2, attribute, member}
 use Rattle.dj_class.specs.PoolFormat.{Content, Characters, One, Two, asked_number, behind, content_of, tag_of, first_of, second_of, units_of, text, tag_within, entry_within, spell_entry, plain_entries, entries, places_of, entry_with, isnt_skip, spread, pool}
 use Rattle.dj_class.specs.FileFormat.{Own, Listed, Rest, Raw, major, front, plain_own, plain_listed, rest_of, plain_rest, file_of, file, named, counted_in_turn, class_indices, field, method, method_attributes, lawful_own, lawful_listed, lawful_rest, sound}
 use Rattle.dj_class.proofs.ClassIsExact.{exact-u2, exact-counted, exact-attribute, exact-member, exact-magic}

@@ -1,8 +1,8 @@
 -- What is lawful is laid out: the last passes ask more than the first.
-use Rattle.std.proofs.Common.{◌≡◌, ℕ, ◌-◌, ◌==◌, filter, Bool, List, [], ◌∷◌, ◌++◌, Option, Some, None, All, length, refl, sym, subst}
+use Rattle.std.proofs.Common.{ℕ, ◌-◌, ◌==◌, filter, Bool, List, [], ◌∷◌, ◌++◌, Some, None, refl, subst}
 use Rattle.std.specs.List.{AllByRecursion}
 use Rattle.std.proofs.lemmas.List.Elements.{recursion_from_All, All-from_recursion}
-use Rattle.dj_layout.specs.Layout.{Layout, Spells, SpellsSome, SpellsAny}
+use Rattle.dj_layout.specs.Layout.{Layout, SpellsSome, SpellsAny}
 use Rattle.dj_layout.specs.Passes.{asked, IsSequence}
 use Rattle.dj_layout.proofs.Laws.{unique}
 use Rattle.dj_class.specs.declared.class.raw.BrokenKind.{BrokenKind}

@@ -1,8 +1,8 @@
 -- Bytes are a class file of one class at most, or have one fault at most, and never both.
-use Rattle.std.proofs.Common.{◌≡◌, ℕ, List, [], ◌∷◌, length, Option, Some, None, refl, sym, ap, subst, ◌∙◌, inl, inr}
-use Rattle.std.specs.Prelude.{IsSomeAnd, slice_get}
+use Rattle.std.proofs.Common.{◌≡◌, ℕ, List, [], ◌∷◌, length, Option, Some, None, refl, sym, subst, ◌∙◌, inl, inr}
+use Rattle.std.specs.Prelude.{IsSomeAnd}
 use Rattle.std.specs.List.{AllZip}
-use Rattle.std.specs.Option.{option_and_then, option_to_list}
+use Rattle.std.specs.Option.{option_to_list}
 use Rattle.dj_layout.specs.declared.fault.Fault.{Fault}
 use Rattle.dj_layout.specs.Whole.{IsWhole}
 use Rattle.dj_layout.proofs.Laws.{whole_unique, whole_has_no_fault, one_first_fault}
@@ -17,9 +17,8 @@ use Rattle.dj_class.specs.declared.class.raw.RawMember.{RawMember}
 use Rattle.dj_class.specs.declared.file.entry.Entry.{Entry}
 use Rattle.dj_class.specs.ClassFile.{u2, counted}
 use Rattle.dj_class.specs.ResolvedClass.{FieldOf, MethodOf}
-use Rattle.dj_class.specs.PoolFormat.{class_at}
 use Rattle.dj_class.specs.FileFormat.{Raw, LeadsTo, file, sound}
-use Rattle.dj_class.specs.Described.{WholeClass, constant_of, IsConstant, IsThrown, DescribesField, DescribesAMethod, DescribesClass, SpellsFile, HasFault}
+use Rattle.dj_class.specs.Described.{WholeClass, IsConstant, IsThrown, DescribesField, DescribesAMethod, DescribesClass, SpellsFile, HasFault}
 use Rattle.dj_class.proofs.ClassIsExact.{exact-u2, exact-counted}
 use Rattle.dj_class.proofs.FileIsExact.{exact-file, exact-sound}
 

@@ -23,3 +23,4 @@ pub mod BodyAttributes
 pub mod FileIsFiner
 pub mod Members
 pub mod ListedParts
+pub mod FileRead

@@ -1,5 +1,5 @@
 -- What follows the pool of a class file, from its parts.
-use Rattle.std.proofs.Common.{◌≡◌, ℕ, List, [], Option, Some, None, All, refl, ◌∙◌}
+use Rattle.std.proofs.Common.{ℕ, List, [], Some, refl}
 use Rattle.std.specs.List.{AllZip}
 use Rattle.std.proofs.lemmas.List.Elements.{All-nil}
 use Rattle.dj_layout.specs.Layout.{Layout, Spells, SpellsSome, SpellsAny}

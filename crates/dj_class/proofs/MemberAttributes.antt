@@ -1,15 +1,11 @@
 -- One more attribute of a member.
-use Rattle.std.proofs.Common.{◌≡◌, ℕ, List, [], ◌∷◌, ◌++◌, Option, Some, None, Bool, false, is_some, codes, refl, sym, ap, ◌∙◌}
+use Rattle.std.proofs.Common.{◌≡◌, ℕ, List, [], ◌∷◌, ◌++◌, Option, Some, None, false, is_some, codes, ap, ◌∙◌}
 use Rattle.dj_layout.specs.Layout.{Spells, SpellsSome}
-use Rattle.dj_layout.specs.Parts.{times}
-use Rattle.dj_layout.specs.Passes.{sequence}
-use Rattle.std.specs.Prelude.{length, ◌==◌}
 use Rattle.dj_names.specs.declared.members.Constant.{Constant}
 use Rattle.dj_class.specs.declared.class.raw.Attribute.{Attribute}
 use Rattle.dj_class.specs.declared.file.entry.Entry.{Entry}
-use Rattle.dj_class.specs.ClassFile.{u2, attribute}
 use Rattle.dj_class.specs.PoolFormat.{text_at}
-use Rattle.dj_class.specs.FileFormat.{named, contents_of, index_of, IsConstantValue, lawful_in_field, counted_in_turn}
+use Rattle.dj_class.specs.FileFormat.{named, contents_of, index_of, IsConstantValue, lawful_in_field}
 use Rattle.dj_class.specs.Described.{IsConstant}
 use Rattle.dj_class.specs.FileParts.{HasConstantIndex, constant_at}
 use Rattle.dj_class.proofs.AttributeContents.{contents_named, contents_other}

@@ -1,5 +1,5 @@
 -- A field and a method, from their parts.
-use Rattle.std.proofs.Common.{◌≡◌, ℕ, List, [], ◌∷◌, Option, Some, None, IsSomeAnd, refl, sym, ap, ◌∙◌}
+use Rattle.std.proofs.Common.{◌≡◌, ℕ, List, [], Option, Some, None, IsSomeAnd, refl}
 use Rattle.std.specs.Option.{unwrap_or}
 use Rattle.dj_layout.specs.Layout.{Spells, SpellsSome}
 use Rattle.dj_layout.specs.Passes.{asked}
@@ -10,10 +10,8 @@ use Rattle.dj_names.specs.Descriptors.{SpellsDescriptor}
 use Rattle.std.specs.Prelude.{codes}
 use Rattle.dj_class.specs.declared.class.raw.BrokenKind.TheVariants as kind
 use Rattle.dj_class.specs.declared.class.raw.Attribute.{Attribute}
-use Rattle.dj_class.specs.declared.class.raw.RawMember.{RawMember}
 use Rattle.dj_class.specs.declared.file.entry.Entry.{Entry}
 use Rattle.dj_class.specs.ClassFile.{u2, counted, attribute}
-use Rattle.dj_class.specs.ResolvedClass.{FieldOf, MethodOf}
 use Rattle.dj_class.specs.PoolFormat.{text_at, IsFieldText, IsMethodText}
 use Rattle.dj_class.specs.FileFormat.{HasFieldFlags, IsOneAccess, member_name, contents_of, counted_in_turn, lawful_in_field, method_attributes, field, method}
 use Rattle.dj_class.specs.Described.{IsConstant, IsThrown, DescribesField, DescribesAMethod}

@@ -1,14 +1,12 @@
 -- Reading a pool: entries one after the other, each with the indices that it takes.
-use Rattle.std.proofs.Common.{◌≡◌, ℕ, ◌+◌, ◌-◌, ◌≤◌, ◌<◌, ◌==◌, nat_le, Bool, true, false, List, [], ◌∷◌, ◌++◌, filter, length, Option, IsTrue, IsFalse, if◌then◌else◌, ◌||◌, refl, sym, ap, ◌∙◌, append_assoc, arith, length-append}
+use Rattle.std.proofs.Common.{◌≡◌, ℕ, ◌+◌, ◌-◌, ◌≤◌, ◌<◌, ◌==◌, nat_le, Bool, true, false, List, [], ◌∷◌, ◌++◌, filter, length, Option, IsTrue, IsFalse, if◌then◌else◌, ◌||◌, refl, sym, ap, ◌∙◌, arith, length-append}
 use Rattle.std.specs.List.{flat_map}
-use Rattle.std.specs.Prelude.{sum_by}
 use Rattle.std.proofs.lemmas.Bool.Decides.{nat_tests}
 use Rattle.std.proofs.lemmas.List.{append-nil}
 use Rattle.std.proofs.lemmas.List.Elements.{filter-append}
 use Rattle.std.proofs.lemmas.List.Sums.{sum_by_push, sum_by-cons}
 use Rattle.std.proofs.lemmas.Grind.{flat_map-append}
 use Rattle.dj_layout.specs.declared.fault.Stop.{Stop}
-use Rattle.dj_layout.specs.declared.fault.Stop.TheVariants as stop
 use Rattle.dj_layout.specs.Layout.{Layout, Spells, Stops}
 use Rattle.dj_layout.proofs.Sequences.{IsRead, read_none, read_more, read_stop, read_all}
 use Rattle.dj_class.specs.declared.class.raw.BrokenKind.{BrokenKind}

@@ -1,5 +1,5 @@
 -- What the table of a pool tells at an index.
-use Rattle.std.proofs.Common.{◌≡◌, ◌↔◌, ℕ, zero, suc, List, [], ◌∷◌, Option, Some, None, Bool, IsTrue, IsSomeAnd, slice_get, sym, subst}
+use Rattle.std.proofs.Common.{◌≡◌, ◌↔◌, ℕ, zero, suc, List, [], ◌∷◌, Option, IsTrue, IsSomeAnd, slice_get, sym, subst}
 use Rattle.std.specs.Option.{option_and_then}
 use Rattle.dj_names.specs.declared.descriptor.Descriptor as code_descriptor
 use Rattle.dj_names.specs.ClassNames.{IsClassName}

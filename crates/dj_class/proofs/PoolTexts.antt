@@ -5,7 +5,7 @@ use Rattle.std.specs.Option.{option_copied}
 use Rattle.dj_names.specs.declared.types.JType as code
 use Rattle.dj_names.specs.declared.descriptor.Descriptor as code_descriptor
 use Rattle.dj_names.specs.declared.descriptor.Descriptor.TheVariants as variants
-use Rattle.dj_names.specs.Types.{JType, Boolean, Byte, Char, Short, Int, Long, Float, Double, Class, Descriptor, Field, Method, Array, view_type, view_types, view_descriptor}
+use Rattle.dj_names.specs.Types.{JType, Boolean, Byte, Char, Short, Int, Long, Float, Double, Class, Descriptor, Field, Method, Array, view_type, view_descriptor}
 use Rattle.dj_names.specs.Descriptors.{SpellsDescriptor}
 use Rattle.dj_names.proofs.DescriptorLemmas.{one_spelled}
 use Rattle.dj_class.specs.PoolFormat.{IsFieldText, IsMethodText, IsArrayText, HasTag, text_at}
@@ -77,9 +77,11 @@ field_is_array units (Array element) is spelled = record { element = element; sp
 
 array_or_not : (units : List ℕ) (t : JType) (is : Bool) → is ≡ is_array_type t → SpellsDescriptor units (Field t) → IsTrue is ↔ IsArrayText units
 array_or_not units t true is spelled = (λ yes. field_is_array units t (sym is) spelled, λ array. refl)
-array_or_not units t false is spelled =
-    (λ yes. absurd (false≢true yes), λ array. let same : Field t ≡ Field (Array array.element) = one_spelled units (Field t) (Field (Array array.element)) spelled array.spelled in
-    absurd (no_array_type t array.element (sym is) cc))
+array_or_not units t false is spelled = (
+  λ yes. absurd (false≢true yes),
+  λ array. let same : Field t ≡ Field (Array array.element) = one_spelled units (Field t) (Field (Array array.element)) spelled array.spelled in
+      absurd (no_array_type t array.element (sym is) cc),
+)
 
 -- a text that is read as a field's type is an array's descriptor where the type is an array's
 pub field_array : (units : Option (List ℕ)) (found : code_descriptor.Descriptor) (kind : code.JType) (is : Bool) → found ≡ variants.Field kind → IsReadOf units (Some found) → is ≡ is_array_type (view_type kind)
@@ -115,16 +117,16 @@ pub field_constant : (pool : List Entry) (descriptor index : ℕ) (found : code_
 field_constant pool descriptor index found kind None is e read tag_is tells = (
   λ yes. absurd (tells.0 yes),
   λ h. let same : Field (view_type kind) ≡ Field h.type = (rw e at (read_is (text_at pool descriptor) found (Field h.type) read (constant_descriptor pool descriptor index h))) in
-  let alike : view_type kind ≡ h.type = cc in
-  let none : None ≡ Some h.tag = tag_is ∙ ap constant_tag alike ∙ h.of_type in absurd cc,
+      let alike : view_type kind ≡ h.type = cc in
+      let none : None ≡ Some h.tag = tag_is ∙ ap constant_tag alike ∙ h.of_type in absurd cc,
 )
 field_constant pool descriptor index found kind (Some tag) is e read tag_is tells = (
   λ yes. let these = of_type (text_at pool descriptor) (view_type kind) (rw e at read) in
-  record { units = these.0; at_descriptor = these.1; type = view_type kind; spelled = these.2; tag = tag; of_type = sym tag_is; there = tells.0 yes },
+      record { units = these.0; at_descriptor = these.1; type = view_type kind; spelled = these.2; tag = tag; of_type = sym tag_is; there = tells.0 yes },
   λ h. let same : Field (view_type kind) ≡ Field h.type = (rw e at (read_is (text_at pool descriptor) found (Field h.type) read (constant_descriptor pool descriptor index h))) in
-  let alike : view_type kind ≡ h.type = cc in
-  let one : Some tag ≡ Some h.tag = tag_is ∙ ap constant_tag alike ∙ h.of_type in
-  let tags : tag ≡ h.tag = cc in tells.1 (rw tags h.there),
+      let alike : view_type kind ≡ h.type = cc in
+      let one : Some tag ≡ Some h.tag = tag_is ∙ ap constant_tag alike ∙ h.of_type in
+      let tags : tag ≡ h.tag = cc in tells.1 (rw tags h.there),
 )
 
 -- where a method's descriptor is told there is one

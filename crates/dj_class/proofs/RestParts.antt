@@ -11,7 +11,7 @@ use Rattle.dj_class.specs.declared.class.raw.Attribute.{Attribute}
 use Rattle.dj_class.specs.declared.class.raw.RawMember.{RawMember}
 use Rattle.dj_class.specs.declared.file.entry.Entry.{Entry}
 use Rattle.dj_class.specs.declared.file.front.Front.{Front}
-use Rattle.dj_class.specs.ClassFile.{u2, counted, sized, attribute, member, magic}
+use Rattle.dj_class.specs.ClassFile.{u2, counted, attribute, member, magic}
 use Rattle.dj_class.specs.FileFormat.{Own, Listed, Rest, plain_own, plain_listed, rest_of, file_of, HasLawfulFlags, IsClassIndex, IsSuperIndex, lawful_own}
 
 -- the bytes of two, three and four parts in a row

@@ -5,6 +5,7 @@ pub mod FirstForm
 pub mod PoolFormat
 pub mod FileFormat
 pub mod Described
+pub mod FaultOf
 -- What the crate keeps to itself.
 pub mod FirstParts
 pub mod PoolTable

@@ -12,9 +12,9 @@ ghost use Rattle.std.specs.Prelude.{◌≡◌, IfOk, IfSome, IfNone};
 ghost use Rattle.dj_class.specs.ResolvedClass as spec;
 ghost use Rattle.dj_class.specs.FirstForm.{IsFirstForm, view_class};
 
-pub(crate) use names::is_class_name;
 use dj_layout::Stop;
-use dj_names::{ClassName, Descriptor, Field, Items, Units};
+use dj_names::{ClassName, Descriptor, Field, Items, Units, copy_names};
+pub(crate) use names::is_class_name;
 pub use pool::has_attribute;
 pub(crate) use raw::magic_at;
 use raw::read_raw;
@@ -31,6 +31,25 @@ pub struct Method {
     pub descriptor: Descriptor,
     pub thrown: Items<ClassName>,
     pub code: Option<Items<u8>>,
+}
+
+impl Method {
+    /// An equal method, which shares its name and its types with this one.
+    pub fn copy(&self, alloc: Global) -> Result<Method, AllocError>
+        ensures equal { IfOk result (λ copy. copy ≡ self.now) }
+    {
+        let code = match &self.code {
+            Some(content) => Some(Items::from_slice(alloc, content.as_slice())?),
+            None => None,
+        };
+        Ok(Method {
+            flags: self.flags,
+            name: self.name.copy(alloc)?,
+            descriptor: self.descriptor.copy(alloc)?,
+            thrown: copy_names(alloc, self.thrown.as_slice())?,
+            code,
+        })
+    }
 }
 
 /// A class as its file describes it.

@@ -3,8 +3,10 @@
 mod attributes;
 mod bodies;
 mod constants;
+mod copies;
 mod entries;
 mod entry;
+mod fault;
 mod flags;
 mod front;
 mod listed;
@@ -16,5 +18,98 @@ mod pools;
 mod skipped;
 mod texts;
 
+ghost use Rattle.std.specs.Prelude.{◌≡◌, IfOk, IfErr};
+ghost use Rattle.dj_layout.specs.declared.fault.Fault.{Fault};
+ghost use Rattle.dj_class.specs.declared.class.raw.BrokenKind as spec;
+ghost use Rattle.dj_class.specs.Described.{WholeClass, SpellsFile, HasFault};
+ghost use Rattle.dj_class.specs.FileViews.{view_file, ReadsFile, IsBroken, GivesClass, GivesFault};
+
+use crate::class::{BrokenKind, Method};
+use copies::{copy_fields, copy_methods};
+use dj_layout::Stop;
+use dj_names::{ClassName, Field, Items, copy_names};
 pub use entry::{Ask, Entry};
+pub use fault::ClassFault;
+use fault::fault_of;
+use front::read_front;
+use listed::sound_at;
 pub use pool::Pool;
+use std::alloc::{AllocError, Global};
+
+/// A class as its file describes it.
+#[derive(Debug, Drop)]
+pub struct ClassFile {
+    pub minor: u16,
+    pub major: u16,
+    pub pool: Pool,
+    pub flags: u16,
+    pub this_class: ClassName,
+    pub super_class: Option<ClassName>,
+    pub interfaces: Items<ClassName>,
+    pub fields: Items<Field>,
+    pub methods: Items<Method>,
+}
+
+impl ClassFile {
+    /// An equal class, which shares its names and its types with this one.
+    pub fn copy(&self, alloc: Global) -> Result<ClassFile, AllocError>
+        ensures equal { IfOk result (λ copy. copy ≡ self.now) }
+    {
+        let super_class = match &self.super_class {
+            Some(name) => Some(name.copy(alloc)?),
+            None => None,
+        };
+        Ok(ClassFile {
+            minor: self.minor,
+            major: self.major,
+            pool: self.pool.copy(alloc)?,
+            flags: self.flags,
+            this_class: self.this_class.copy(alloc)?,
+            super_class,
+            interfaces: copy_names(alloc, self.interfaces.as_slice())?,
+            fields: copy_fields(alloc, self.fields.as_slice())?,
+            methods: copy_methods(alloc, self.methods.as_slice())?,
+        })
+    }
+}
+
+/// The class of the bytes, or their fault.
+fn read_file(alloc: Global, bytes: &[u8], oldest: u16) -> Result<ClassFile, Stop<BrokenKind>>
+    ensures reads { ReadsFile bytes.now oldest result }
+{
+    let front = read_front(alloc, oldest, bytes)?;
+    let pool = Pool::new(alloc, front.pool)?;
+    let ((own, members), _rest) = sound_at(alloc, oldest, &pool, bytes, bytes.len())?;
+    Ok(ClassFile {
+        minor: front.minor,
+        major: front.major,
+        pool,
+        flags: own.flags,
+        this_class: own.this_class,
+        super_class: own.super_class,
+        interfaces: members.interfaces,
+        fields: members.fields,
+        methods: members.methods,
+    })
+}
+
+/// The class whose file the bytes are, of a major version from `oldest` to 52.
+pub fn read_class(alloc: Global, bytes: &[u8], oldest: u16) -> Result<ClassFile, ClassFault>
+    // What is read is the class of the bytes.
+    ensures read { IfOk result (λ class. SpellsFile bytes.now oldest (view_file class)) }
+    // What is broken is so at the first fault of the bytes.
+    ensures broken { IfErr result (IsBroken bytes.now oldest) }
+    // The class of the bytes is read, unless memory runs out.
+    ensures value { (class : WholeClass) → SpellsFile bytes.now oldest class → GivesClass result class }
+    // The fault of the bytes is answered, unless memory runs out.
+    ensures fault { (fault : Fault spec.BrokenKind) → HasFault bytes.now oldest fault → GivesFault result fault }
+    // Bytes have one class at most.
+    ensures one_class { (a b : WholeClass) → SpellsFile bytes.now oldest a → SpellsFile bytes.now oldest b → a ≡ b }
+    // Bytes have one fault at most.
+    ensures one_fault { (f g : Fault spec.BrokenKind) → HasFault bytes.now oldest f → HasFault bytes.now oldest g → f ≡ g }
+{
+    match read_file(alloc, bytes, oldest) {
+        Ok(class) => Ok(class),
+        Err(why) => Err(fault_of(why)),
+    }
+}

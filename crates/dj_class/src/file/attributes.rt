@@ -116,11 +116,7 @@ pub fn constant_index(pool: &Pool, descriptor: u16, content: &[u8]) -> Option<u1
 }
 
 /// The constant of an entry.
-fn constant_of(
-    alloc: Global,
-    pool: &Pool,
-    entry: &Entry,
-) -> Result<Option<Constant>, AllocError>
+fn constant_of(alloc: Global, pool: &Pool, entry: &Entry) -> Result<Option<Constant>, AllocError>
     ensures constant { IfOk result (λ found. found ≡ constant_of pool.now entry.now) }
 {
     match entry {

@@ -4,12 +4,19 @@ ghost use Rattle.std.specs.Prelude.{◌↔◌, IsTrue, IsBitSet};
 ghost use Rattle.dj_class.specs.FileFormat.{HasLawfulFlags, IsOneAccess, HasFieldFlags, IsBodiless};
 
 const PUBLIC: u16 = 0x1;
+
 const PRIVATE: u16 = 0x2;
+
 const PROTECTED: u16 = 0x4;
+
 const FINAL: u16 = 0x10;
+
 const VOLATILE: u16 = 0x40;
+
 const NATIVE: u16 = 0x100;
+
 const INTERFACE: u16 = 0x200;
+
 const ABSTRACT: u16 = 0x400;
 
 /// Whether the flags are an interface's.

@@ -6,6 +6,7 @@ ghost use Rattle.dj_names.specs.ClassNames.{IsClassName};
 ghost use Rattle.dj_class.specs.PoolFormat.{text_at, class_at, descriptor_behind, IsFound, LeadsRight};
 ghost use Rattle.dj_class.specs.PoolTable.{IsReadOf};
 
+use crate::file::copies::copy_entries;
 use crate::file::entry::Entry;
 use crate::file::parsed::{Parsed, is_named, parsed_descriptor, parsed_table};
 use dj_names::{Descriptor, Items, Units};
@@ -39,6 +40,14 @@ impl Pool {
     {
         let parsed = parsed_table(alloc, entries.as_slice())?;
         Ok(Pool { entries, parsed })
+    }
+
+    /// An equal pool, which shares its units with this one.
+    pub fn copy(&self, alloc: Global) -> Result<Pool, AllocError>
+        ensures equal { IfOk result (λ copy. copy ≡ self.now) }
+    {
+        let entries = copy_entries(alloc, self.entries.as_slice())?;
+        Pool::new(alloc, entries)
     }
 
     pub fn as_slice(&self) -> &[Entry]

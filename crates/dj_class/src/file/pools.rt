@@ -11,8 +11,8 @@ ghost use Rattle.dj_class.specs.PoolFormat.{behind, content_of, tag_of, places, 
 use crate::class::BrokenKind;
 use crate::file::entries::{
     class_at, double_at, field_ref_at, float_at, integer_at, interface_method_ref_at,
-    invoke_dynamic_at, long_at, method_handle_at, method_ref_at, method_type_at,
-    name_and_type_at, places, string_at, tag_at, utf8_entry_at,
+    invoke_dynamic_at, long_at, method_handle_at, method_ref_at, method_type_at, name_and_type_at,
+    places, string_at, tag_at, utf8_entry_at,
 };
 use crate::file::entry::Entry;
 use crate::file::pool::Pool;

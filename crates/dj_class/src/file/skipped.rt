@@ -19,11 +19,7 @@ fn skip_attribute(bytes: &[u8], end: usize) -> Result<&[u8], Stop<BrokenKind>>
 }
 
 /// So many attributes.
-fn skip_attribute_list(
-    count: u16,
-    bytes: &[u8],
-    end: usize,
-) -> Result<&[u8], Stop<BrokenKind>>
+fn skip_attribute_list(count: u16, bytes: &[u8], end: usize) -> Result<&[u8], Stop<BrokenKind>>
     ensures reads { Skips (times count attribute) (λ x. x.now) end bytes.now result }
 {
     let mut rest = bytes;

@@ -1,4 +1,3 @@
-use Rattle.std.proofs.Common.{◌≡◌, ◌↔◌, [], IsTrue, codes}
 use Rattle.dj_layout.specs.Layout.{SpellsSome}
 use Rattle.dj_layout.specs.Parts.{times}
 use Rattle.dj_class.specs.ClassFile.{attribute}
