@@ -5,10 +5,12 @@ ghost use Rattle.dj_names.specs.Types.{Class, view_type, view_types};
 ghost use Rattle.dj_read.specs.Words.{comes};
 ghost use Rattle.dj_read.specs.Names.{IsWhole, more_type, read_name, read_names, read_parameters, read_result, read_type, type_of};
 
-use crate::well_formed::names::SLASH;
 use crate::words::Reader;
 use dj_names::{ClassName, Items, JType, Shared, Units};
 use std::alloc::{AllocError, Global};
+
+/// What stands between the segments of a class's name.
+pub const SLASH: u16 = b'/' as u16;
 
 /// The units of a word.
 pub fn units_of(alloc: Global, word: &[u8]) -> Result<Units, AllocError>

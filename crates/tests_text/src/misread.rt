@@ -2,7 +2,8 @@
 
 use crate::texts::{DIFFERENCE, FINAL_CLASS, printed_again};
 use dj_names::{ClassName, Units};
-use dj_read::{is_well_formed, read_unit};
+use dj_read::read_unit;
+use dj_well_formed::is_well_formed;
 use std::alloc::{AllocError, Global};
 use std::test::*;
 
