@@ -8,7 +8,7 @@ use dj_names::{ClassName, Descriptor, Items, JType, Units, copy_names};
 use std::alloc::{AllocError, Global};
 
 /// A unit: the package that it is in, and its class or interface.
-#[derive(Debug, Drop)]
+#[derive(Drop)]
 pub struct Unit {
     /// The package, with `/` between its segments; None for the unnamed one.
     pub package: Option<ClassName>,
@@ -26,7 +26,7 @@ pub struct Unit {
 }
 
 /// A field of a unit.
-#[derive(Debug, Drop)]
+#[derive(Drop)]
 pub struct FieldText {
     /// The flags (JVMS 4.5) that the text shows or implies.
     pub flags: u16,
@@ -36,7 +36,7 @@ pub struct FieldText {
 }
 
 /// A method, constructor or static initialiser of a unit.
-#[derive(Debug, Drop)]
+#[derive(Drop)]
 pub struct MethodText {
     /// The flags (JVMS 4.6) that the text shows or implies.
     pub flags: u16,
@@ -48,7 +48,7 @@ pub struct MethodText {
 }
 
 /// The body of a method, with the head of the method in which it stands.
-#[derive(Debug, Drop)]
+#[derive(Drop)]
 pub struct Body {
     pub class: ClassName,
     pub flags: u16,
