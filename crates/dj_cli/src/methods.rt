@@ -16,7 +16,7 @@ use dj_syntax::{Body, Exp, MethodText, method_bits};
 use std::alloc::{AllocError, Global};
 
 /// The line on a method that isn't printed.
-#[derive(Debug, Drop)]
+#[derive(Drop)]
 pub struct MethodLine<'a> {
     pub method: &'a Method,
     /// How the line ends.
@@ -24,7 +24,7 @@ pub struct MethodLine<'a> {
 }
 
 /// What is found of the methods of a class.
-#[derive(Debug, Drop)]
+#[derive(Drop)]
 pub struct Judgement<'a> {
     /// The texts of those that are printed, in file order.
     pub texts: Items<MethodText>,

@@ -12,7 +12,7 @@ use dj_print::unit_bytes;
 use std::alloc::{AllocError, Global};
 
 /// What is told of a class.
-#[derive(Debug, Drop)]
+#[derive(Drop)]
 pub struct ClassPiece<'a> {
     /// The line that names its file.
     pub line: Vec<u8>,

@@ -13,7 +13,7 @@ use std::alloc::{AllocError, Global};
 
 /// How far a body is read: the statements before each block that is open, the innermost last, those
 /// of the innermost block, and the value of a `return` that isn't ended.
-#[derive(Debug, Drop)]
+#[derive(Drop)]
 struct Blocks {
     outer: Items<Items<Stm>>,
     statements: Items<Stm>,
