@@ -11,7 +11,7 @@ use dj_syntax::{Exp, Op, Var, VarKind};
 use std::alloc::{AllocError, Global};
 
 /// What is open around an operand: a parenthesis, or an operator with its left operand.
-#[derive(Debug, Drop)]
+#[derive(Drop)]
 pub enum Pending {
     Parenthesis,
     Left(Exp, Op),
@@ -19,7 +19,7 @@ pub enum Pending {
 
 /// How far an expression is read: an operand is wanted, or digits behind a minus sign are, or one
 /// stands. What is open has the innermost last.
-#[derive(Debug, Drop)]
+#[derive(Drop)]
 pub enum Reading {
     Wanted(Items<Pending>),
     Minus(Items<Pending>),

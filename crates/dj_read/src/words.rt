@@ -7,7 +7,7 @@ ghost use Rattle.dj_read.specs.Words.{words, first_word, other_words, comes, is_
 use std::marker::Model;
 
 /// The rest of a text, which contracts see as its words.
-#[derive(Debug, Drop)]
+#[derive(Drop)]
 pub struct Reader<'a> {
     text: &'a [u8],
 }
