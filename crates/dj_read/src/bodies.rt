@@ -132,15 +132,19 @@ fn read_return(
 ) -> Result<Blocks, AllocError>
     ensures read { IfOk result (λ blocks. view_blocks blocks ≡ read_return (between (view_outer outer) (map view_stm statements)) (view_reading reading) word.now) }
 {
-    let value = if is_word(word, b";") {
+    if is_word(word, b";") {
         statements.push(Stm::Return(reading.standing()))?;
-        None
+        Ok(Blocks {
+            outer,
+            statements,
+            value: None,
+        })
     } else {
-        Some(reading.read_word(alloc, word)?)
-    };
-    Ok(Blocks {
-        outer,
-        statements,
-        value,
-    })
+        let value = Some(reading.read_word(alloc, word)?);
+        Ok(Blocks {
+            outer,
+            statements,
+            value,
+        })
+    }
 }
