@@ -51,6 +51,20 @@ pub record IsFirstClass (raw : RawFile) (class : ClassOf) : Type 0 where
   pub with_code : All (λ method. IsSome method.code) class.methods
   pub no_exceptions : All (λ member. contents raw.pool (codes "Exceptions") member.attributes ≡ []) raw.methods
 
+-- the class that a file describes, with these names and methods, and with no interface and no field
+abbrev pub class_with : RawFile → List ℕ → List ℕ → List MethodOf → ClassOf
+class_with raw name superclass methods = record {
+  minor = raw.minor;
+  major = raw.major;
+  pool = raw.pool;
+  flags = raw.flags;
+  this_class = name;
+  super_class = Some superclass;
+  interfaces = [];
+  fields = [];
+  methods = methods;
+}
+
 -- a text that a Class entry may lead to (JVMS 4.4.1)
 abbrev pub IsNameEntry : Entry → Type 0
 IsNameEntry entry = IsSomeAnd (units_at entry) IsClassOrArray

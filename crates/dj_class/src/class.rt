@@ -24,7 +24,7 @@ use std::alloc::{AllocError, Global};
 
 /// A method: its flags, name and descriptor, the classes that it declares to throw, and the
 /// content of its Code attribute.
-#[derive(Debug, Drop)]
+#[derive(Drop)]
 pub struct Method {
     pub flags: u16,
     pub name: Units,
@@ -53,7 +53,7 @@ impl Method {
 }
 
 /// A class as its file describes it.
-#[derive(Debug, Drop)]
+#[derive(Drop)]
 pub struct ClassFile {
     pub minor: u16,
     pub major: u16,

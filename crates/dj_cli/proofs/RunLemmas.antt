@@ -1,5 +1,5 @@
 -- How a run ends with a last line.
-use Rattle.std.proofs.Common.{◌≡◌, Ok, sym, subst, inl, inr}
+use Rattle.std.proofs.Common.{Ok, sym, subst, inl, inr}
 use Rattle.dj_cli.specs.declared.status.Status.{Status}
 use Rattle.dj_cli.specs.Status.{OnReportFault}
 use Rattle.dj_cli.specs.Run.{EndsSo}

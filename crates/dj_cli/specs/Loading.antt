@@ -1,5 +1,5 @@
 -- How loading the files of an order ends, and what each file is read as.
-use Rattle.std.specs.Prelude.{◌≡◌, ◌⊎◌, ℕ, List, map, Option, Some, None, All, Vec}
+use Rattle.std.specs.Prelude.{◌≡◌, ◌⊎◌, ℕ, List, map, Option, Some, None, Vec}
 use Rattle.std.specs.declared.alloc.Global.{Global}
 use Rattle.dj_class.specs.declared.class.ClassFile.{ClassFile}
 use Rattle.dj_class.specs.FirstForm.{view_class}

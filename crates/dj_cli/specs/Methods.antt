@@ -1,5 +1,5 @@
 -- What is found of the methods of a class.
-use Rattle.std.specs.Prelude.{◌≡◌, ℕ, false, List, [], ◌++◌, Option, string_bytes}
+use Rattle.std.specs.Prelude.{◌≡◌, ℕ, false, List, [], ◌++◌, string_bytes}
 use Rattle.std.specs.List.{AllByRecursion, flat_map}
 use Rattle.dj_names.specs.Types.{view_descriptor}
 use Rattle.dj_class.specs.ResolvedClass.{ClassOf, MethodOf}

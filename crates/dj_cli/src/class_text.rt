@@ -12,7 +12,7 @@ use dj_syntax::{MethodText, Unit, held_class};
 use std::alloc::{AllocError, Global};
 
 /// A class's name as a package, where it has one, and a simple name.
-#[derive(Debug, Drop)]
+#[derive(Drop)]
 struct SplitName {
     package: Option<ClassName>,
     simple: Units,

@@ -17,7 +17,7 @@ use std::alloc::{AllocError, AllocFailed, Global};
 pub const MOST_BYTES: usize = 16_777_216;
 
 /// Why not all files were loaded.
-#[derive(Debug, Drop)]
+#[derive(Drop)]
 pub enum LoadStop {
     /// The load at this place failed.
     Fault(u32),

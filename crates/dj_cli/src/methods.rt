@@ -10,13 +10,13 @@ ghost use Rattle.dj_cli.specs.Methods.{AreJudged, IsTextOf, lines_bytes};
 
 use crate::report::not_yet_tail;
 use dj_class::{ClassFile, Method};
-use dj_names::{Items, copy_names};
+use dj_names::{Items, MethodHead, copy_names};
 use dj_straight::{Declared, Judged, judge, returning_body};
 use dj_syntax::{Body, Exp, MethodText, method_bits};
 use std::alloc::{AllocError, Global};
 
 /// The line on a method that isn't printed.
-#[derive(Debug, Drop)]
+#[derive(Drop)]
 pub struct MethodLine<'a> {
     pub method: &'a Method,
     /// How the line ends.
@@ -24,7 +24,7 @@ pub struct MethodLine<'a> {
 }
 
 /// What is found of the methods of a class.
-#[derive(Debug, Drop)]
+#[derive(Drop)]
 pub struct Judgement<'a> {
     /// The texts of those that are printed, in file order.
     pub texts: Items<MethodText>,
@@ -32,15 +32,31 @@ pub struct Judgement<'a> {
     pub lines: Vec<MethodLine<'a>>,
 }
 
+/// A copy of a method's head.
+fn copied_head(alloc: Global, method: &Method) -> Result<MethodHead, AllocError>
+    ensures flags { IfOk result (λ head. head.flags ≡ method.now.flags) }
+    ensures name { IfOk result (λ head. head.name ≡ method.now.name) }
+    ensures descriptor { IfOk result (λ head. head.descriptor ≡ method.now.descriptor) }
+    ensures thrown { IfOk result (λ head. head.thrown ≡ method.now.thrown) }
+{
+    Ok(MethodHead {
+        flags: method.flags,
+        name: method.name.copy(alloc)?,
+        descriptor: method.descriptor.copy(alloc)?,
+        thrown: copy_names(alloc, method.thrown.as_slice())?,
+    })
+}
+
 /// The text of a method with this body.
 fn method_text(alloc: Global, method: &Method, body: Body) -> Result<MethodText, AllocError>
     ensures text { IfOk result (λ text. trees.view_method text ≡ method_text (view_method method.now) (view_body body)) }
 {
+    let head = copied_head(alloc, method)?;
     Ok(MethodText {
-        flags: method.flags & method_bits(false),
-        name: method.name.copy(alloc)?,
-        descriptor: method.descriptor.copy(alloc)?,
-        thrown: copy_names(alloc, method.thrown.as_slice())?,
+        flags: head.flags & method_bits(false),
+        name: head.name,
+        descriptor: head.descriptor,
+        thrown: head.thrown,
         body: Some(body),
     })
 }

@@ -1,18 +1,22 @@
 //! What is told of a class, made whole before a byte of it is put.
 
-ghost use Rattle.std.specs.Prelude.{ℕ, List, IfOk};
+ghost use Rattle.std.specs.Prelude.{◌≡◌, ◌<◌, ℕ, List, All, IfOk};
 ghost use Rattle.dj_class.specs.FirstForm.{IsFirstForm, view_class};
 ghost use Rattle.dj_cli.specs.Output.{PrintsClass};
-ghost use Rattle.dj_cli.specs.Pieces.{piece_of};
+ghost use Rattle.dj_cli.specs.Pieces.{piece_of, piece_of_parts};
+ghost use Rattle.dj_print.specs.Printable.{IsAscii};
+ghost use Rattle.dj_syntax.specs.Trees.{view_unit};
 
 use crate::class_text::{class_unit, file_line};
-use crate::methods::{MethodLine, judge_methods};
+use crate::methods::{Judgement, MethodLine, judge_methods};
 use dj_class::ClassFile;
+use dj_names::ClassName;
 use dj_print::unit_bytes;
+use dj_syntax::Unit;
 use std::alloc::{AllocError, Global};
 
 /// What is told of a class.
-#[derive(Debug, Drop)]
+#[derive(Drop)]
 pub struct ClassPiece<'a> {
     /// The line that names its file.
     pub line: Vec<u8>,
@@ -26,11 +30,24 @@ pub fn piece_of_class(alloc: Global, class: &ClassFile) -> Result<ClassPiece<'_>
     requires first_form { (bytes : List ℕ) × IsFirstForm bytes (view_class class.now) }
     ensures printed { IfOk result (λ piece. PrintsClass (view_class class.now) (piece_of class.now.this_class piece)) }
 {
-    let judgement = judge_methods(alloc, class)?;
-    let unit = class_unit(alloc, class, judgement.texts)?;
-    Ok(ClassPiece {
-        line: file_line(alloc, &class.this_class)?,
-        unit: unit_bytes(alloc, &unit)?,
-        lines: judgement.lines,
-    })
+    let Judgement { texts, lines } = judge_methods(alloc, class)?;
+    let unit = class_unit(alloc, class, texts)?;
+    let piece = piece_of_unit(alloc, &class.this_class, &unit, lines)?;
+    Ok(piece)
+}
+
+/// What is told of a class of this name, whose unit and lines are these.
+fn piece_of_unit<'a>(
+    alloc: Global,
+    name: &ClassName,
+    unit: &Unit,
+    lines: Vec<MethodLine<'a>>,
+) -> Result<ClassPiece<'a>, AllocError>
+    requires ascii { All (λ letter. letter < 128) name.now }
+    requires printable { IsAscii (view_unit unit.now) }
+    ensures piece { IfOk result (λ piece. piece_of name.now piece ≡ piece_of_parts name.now (view_unit unit.now) lines.entry.items) }
+{
+    let line = file_line(alloc, name)?;
+    let unit = unit_bytes(alloc, unit)?;
+    Ok(ClassPiece { line, unit, lines })
 }

@@ -21,7 +21,7 @@ use dj_outer::{Failed, Sink};
 use std::alloc::{AllocError, Global};
 
 /// Why not everything was told.
-#[derive(Debug, Drop)]
+#[derive(Drop)]
 pub enum TellStop {
     /// The text could not be written.
     Text,

@@ -8,7 +8,7 @@ use crate::status::UsageKind;
 use std::alloc::{AllocError, AllocFailed, Global};
 
 /// What is to be done.
-#[derive(Debug, Drop)]
+#[derive(Drop)]
 pub enum Order {
     /// Print these class files, in order.
     Files { named: Vec<String> },
@@ -30,7 +30,7 @@ impl Order {
 }
 
 /// Why the words give no order.
-#[derive(Debug, Drop)]
+#[derive(Drop)]
 pub enum WordsFault {
     Usage(UsageKind),
     Memory(AllocError),

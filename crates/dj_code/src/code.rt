@@ -3,13 +3,13 @@
 use dj_names::{ClassName, Descriptor, Items, Units};
 
 /// The family of values that an instruction works on (JVMS 2.11.1).
-#[derive(Clone, Copy, Debug, PartialEq, Eq)]
+#[derive(Clone, Copy, PartialEq, Eq)]
 pub enum Kind {
     Int,
 }
 
 /// What an arithmetic instruction does (JVMS 2.11.3).
-#[derive(Clone, Copy, Debug, PartialEq, Eq)]
+#[derive(Clone, Copy, PartialEq, Eq)]
 pub enum Calc {
     Add,
     Sub,
@@ -17,13 +17,13 @@ pub enum Calc {
 }
 
 /// A constant that an instruction pushes.
-#[derive(Clone, Copy, Debug, PartialEq, Eq)]
+#[derive(Clone, Copy, PartialEq, Eq)]
 pub enum Constant {
     Int(i32),
 }
 
 /// An instruction; its short, long and wide forms are one value.
-#[derive(Clone, Copy, Debug, PartialEq, Eq)]
+#[derive(Clone, Copy, PartialEq, Eq)]
 pub enum Instruction {
     /// `iconst_m1` to `iconst_5`, `bipush`, `sipush`.
     Push(Constant),
@@ -37,7 +37,7 @@ pub enum Instruction {
 
 /// An entry of the exception table: the offsets where its range begins and ends, the offset where
 /// its handler begins, and the class that it takes, None for all.
-#[derive(Debug, Drop)]
+#[derive(Drop)]
 pub struct Handler {
     pub start: u32,
     pub end: u32,
@@ -47,7 +47,7 @@ pub struct Handler {
 
 /// The code of a method: the method's class and head, the limits, the instructions, each with the
 /// offset at which it begins, and the exception table in order.
-#[derive(Debug, Drop)]
+#[derive(Drop)]
 pub struct Code {
     pub class: ClassName,
     pub name: Units,

@@ -16,7 +16,7 @@ use dj_names::Items;
 use std::alloc::{AllocError, Global};
 
 /// An entry of the exception table: pcs, and the index of a class or 0.
-#[derive(Clone, Copy, Debug, PartialEq, Eq)]
+#[derive(Clone, Copy, PartialEq, Eq)]
 pub struct RawHandler {
     pub start: u16,
     pub end: u16,
@@ -25,7 +25,7 @@ pub struct RawHandler {
 }
 
 /// The content of a Code attribute.
-#[derive(Debug, Drop)]
+#[derive(Drop)]
 pub struct CodeContent {
     pub max_stack: u16,
     pub max_locals: u16,

@@ -9,7 +9,7 @@ use dj_names::Items;
 use std::alloc::{AllocError, Global};
 
 /// What stands behind an opcode.
-#[derive(Clone, Copy, Debug, PartialEq, Eq)]
+#[derive(Clone, Copy, PartialEq, Eq)]
 pub enum Form {
     /// Nothing.
     Plain,
@@ -22,7 +22,7 @@ pub enum Form {
 }
 
 /// The instructions that the front of a method's code spells, and the offset where it ends.
-#[derive(Debug, Drop)]
+#[derive(Drop)]
 pub struct Decoded {
     pub instructions: Items<(u32, Instruction)>,
     pub end: u32,

@@ -10,3 +10,4 @@ pub mod OneSpelling
 pub mod IdentifiersLemmas
 pub mod SegmentLemmas
 pub mod HeadersLemmas
+pub mod CopyLemmas

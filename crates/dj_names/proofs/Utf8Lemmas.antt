@@ -1,6 +1,6 @@
 -- The spelling of a unit begins no other, so bytes spell one list of units or none.
-use Rattle.std.proofs.Common.{◌≡◌, ◌≢◌, ℕ, ◌+◌, ◌-◌, ◌*◌, ◌/◌, ◌%◌, ◌<◌, ◌≤◌, ◌⊎◌, List, [], ◌∷◌, ◌++◌, length, take, drop, true, false, nat_lt, if◌then◌else◌, Option, Some, None, All, refl, sym, ap, subst, inl, inr, ◌∙◌, arith}
-use Rattle.std.proofs.lemmas.List.{append_assoc, append-nil, take-append-drop, length-drop}
+use Rattle.std.proofs.Common.{◌≡◌, ◌≢◌, ℕ, ◌+◌, ◌-◌, ◌*◌, ◌/◌, ◌%◌, ◌<◌, ◌≤◌, ◌⊎◌, List, [], ◌∷◌, ◌++◌, length, take, drop, get_or, true, false, nat_lt, if◌then◌else◌, Option, Some, None, All, refl, sym, ap, subst, inl, inr, ◌∙◌, arith}
+use Rattle.std.proofs.lemmas.List.{append_assoc, append-nil, take-append-drop, length-drop, take_more}
 use Rattle.std.proofs.Math.Seq.{take-add}
 use Rattle.std.proofs.lemmas.Bool.{cases_lt}
 use Rattle.std.proofs.lemmas.List.Concat.{flat_map-append}
@@ -125,3 +125,9 @@ no_units_at bytes before at are spelled within wrong = record {
 pub spell_units-push : (units bytes : List ℕ) (unit at size : ℕ) → spell_units units ≡ take at bytes → encode unit ≡ take size (drop at bytes) → spell_units (units ++ unit ∷ []) ≡ take (at + size) bytes
 spell_units-push units bytes unit at size before next =
     flat_map-append encode units (unit ∷ []) ∙ ap (λ u. spell_units units ++ u) (append-nil (encode unit)) ∙ (let f : spell_units units ++ encode unit ≡ take at bytes ++ take size (drop at bytes) = cc (before, next) in f) ∙ sym (take-add at size bytes)
+
+-- the spelling of one unit more of a list
+pub spelled_more : (units : List ℕ) (i unit : ℕ) (before after : List ℕ) → i < length units → unit ≡ get_or units i 0 → before ≡ spell_units (take i units) → after ≡ before ++ encode unit → after ≡ spell_units (take (i + 1) units)
+spelled_more units i unit before after within is spelled pushed =
+    pushed ∙ ap (λ bytes. bytes ++ encode unit) spelled ∙ ap (λ last. spell_units (take i units) ++ encode last) is
+    ∙ sym (ap spell_units (take_more units i 0 within) ∙ flat_map-append encode (take i units) (get_or units i 0 ∷ []) ∙ ap (λ last. spell_units (take i units) ++ last) (append-nil (encode (get_or units i 0))))

@@ -8,7 +8,7 @@ use std::alloc::{AllocError, Global};
 use std::marker::Model;
 
 /// The name of a class or interface in internal form, as `java/lang/Object`.
-#[derive(Debug, Drop)]
+#[derive(Drop)]
 pub struct ClassName {
     units: Units,
 }

@@ -7,7 +7,7 @@ use crate::types::JType;
 use std::alloc::{AllocError, Global};
 
 /// A field's type, or a method's parameter types and its result, None for `void`.
-#[derive(Debug, Drop)]
+#[derive(Drop)]
 pub enum Descriptor {
     Field(JType),
     Method {

@@ -26,7 +26,7 @@ const MAX_DIMENSIONS: u8 = 255;
 const MAX_WORDS: u8 = 255;
 
 /// Why a reader stops: what comes next can't follow, or memory is out.
-#[derive(Debug, Drop)]
+#[derive(Drop)]
 enum Stop {
     Here,
     Memory(AllocError),

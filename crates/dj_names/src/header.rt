@@ -9,7 +9,7 @@ use std::alloc::{AllocError, Global};
 use std::marker::Model;
 
 /// A class or interface, its superclass and its interfaces by name, and its flags.
-#[derive(Debug, Drop)]
+#[derive(Drop)]
 pub struct Header {
     pub name: ClassName,
     pub superclass: Option<ClassName>,
@@ -36,7 +36,7 @@ impl Header {
 }
 
 /// Headers in order, no two of one class.
-#[derive(Debug, Drop)]
+#[derive(Drop)]
 pub struct Headers {
     headers: Items<Header>,
 }

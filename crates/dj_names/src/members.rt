@@ -10,7 +10,7 @@ use sqlite_items::Items;
 use std::alloc::{AllocError, Global};
 
 /// A constant; a float and a double are kept by their bits.
-#[derive(Debug, Drop)]
+#[derive(Drop)]
 pub enum Constant {
     Int(i32),
     Long(i64),
@@ -35,7 +35,7 @@ impl Constant {
 }
 
 /// A field, and its constant value where it has one.
-#[derive(Debug, Drop)]
+#[derive(Drop)]
 pub struct Field {
     pub flags: u16,
     pub name: Units,
@@ -62,7 +62,7 @@ impl Field {
 }
 
 /// A method without its code, and the classes that it declares to throw.
-#[derive(Debug, Drop)]
+#[derive(Drop)]
 pub struct MethodHead {
     pub flags: u16,
     pub name: Units,
@@ -85,7 +85,7 @@ impl MethodHead {
 }
 
 /// The fields and methods of a class in file order, and the classes that its file names.
-#[derive(Debug, Drop)]
+#[derive(Drop)]
 pub struct ClassMembers {
     pub fields: Items<Field>,
     pub methods: Items<MethodHead>,
@@ -106,7 +106,7 @@ impl ClassMembers {
 }
 
 /// The members of each class, in the order of the headers that they go with.
-#[derive(Debug, Drop)]
+#[derive(Drop)]
 pub struct Members {
     pub classes: Items<ClassMembers>,
 }
@@ -126,7 +126,7 @@ impl Members {
 
 /// One field or method: the place of its class among the headers, whether it is a method, and
 /// its place among the methods or the fields of the class.
-#[derive(Clone, Copy, Debug, PartialEq, Eq)]
+#[derive(Clone, Copy, PartialEq, Eq)]
 pub struct Member {
     pub class: u32,
     pub method: bool,

@@ -7,7 +7,7 @@ use std::marker::Model;
 use std::rc::Rc;
 
 /// A value that is kept once, however many own it.
-#[derive(Debug, Drop)]
+#[derive(Drop)]
 pub struct Shared<T> {
     inner: Rc<T>,
 }

@@ -7,7 +7,7 @@ use std::marker::Model;
 use std::rc::Rc;
 
 /// A list that is kept once, however many own it.
-#[derive(Debug, Drop)]
+#[derive(Drop)]
 pub struct SharedList<T> {
     inner: Rc<Vec<T>>,
 }

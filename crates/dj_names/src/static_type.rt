@@ -6,7 +6,7 @@ use crate::types::JType;
 use std::alloc::{AllocError, Global};
 
 /// The type of `null`, or a type of the machine.
-#[derive(Debug, Drop)]
+#[derive(Drop)]
 pub enum StaticType {
     Null,
     Of(JType),

@@ -9,7 +9,7 @@ use crate::shared::Shared;
 use std::alloc::{AllocError, Global};
 
 /// A type of the machine: primitive, a class or interface, or an array of a type.
-#[derive(Debug, Drop)]
+#[derive(Drop)]
 pub enum JType {
     Boolean,
     Byte,

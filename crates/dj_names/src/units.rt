@@ -7,7 +7,7 @@ use std::marker::Model;
 use std::rc::RcSlice;
 
 /// A list of 16-bit units, as `Utf8` entries of a class file spell them, kept once for all copies.
-#[derive(Debug, Drop)]
+#[derive(Drop)]
 pub struct Units {
     units: RcSlice<u16>,
 }

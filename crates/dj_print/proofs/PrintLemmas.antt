@@ -2,12 +2,12 @@
 use Rattle.std.proofs.Common.{◌≡◌, ℕ, ◌+◌, ◌*◌, ◌<◌, ◌≤◌, ◌==◌, if◌then◌else◌, Bool, true, false, List, [], ◌∷◌, ◌++◌, map, length, take, drop, get_or, refl, sym, ap, ◌∙◌, subst, arith, append_assoc, append-nil, length-drop, ◌-◌}
 use Rattle.std.specs.Prelude.{replicate, codes, min, Some, None, All}
 use Rattle.std.specs.List.{flat_map}
-use Rattle.std.proofs.lemmas.List.{drop-map, drop_more, get_or-map, length-map, replicate-append-replicate, take_all}
+use Rattle.std.proofs.lemmas.List.{at_drop_all, drop-map, drop_more, get_or-map, length-map, replicate-append-replicate, take_all}
 use Rattle.std.proofs.lemmas.List.Elements.{All-drop}
 use Rattle.std.proofs.lemmas.Grind.{flat_map-append}
 use Rattle.dj_names.specs.ClassNames.{segments, in_front}
 use Rattle.dj_names.proofs.SegmentLemmas.{some_segment}
-use Rattle.dj_syntax.specs.Items.{Line, Space, item_text, render, separated}
+use Rattle.dj_syntax.specs.Items.{Item, Line, Space, item_text, render, separated}
 use Rattle.dj_syntax.specs.Trees.{Stm, Stms, Block, Return, Empty, And}
 use Rattle.dj_syntax.specs.UnitText.{Spellings, dotted, sign, word, exp_items, helper_items, modifiers, modifiers_items, modifier_items, stm_items, stms_items}
 
@@ -53,6 +53,19 @@ one_more F g law xs i x base out after within is before printed =
     let e : drop i xs ≡ x ∷ drop (i + 1) xs = rw is (drop_more xs i x within) in
     ap (λ o. o ++ F (drop (i + 1) xs)) printed ∙ append_assoc out (g x) (F (drop (i + 1) xs)) ∙ ap (λ text. out ++ text) (sym (ap F e ∙ law x (drop (i + 1) xs))) ∙ before
 
+-- one more piece of a list of items
+pub one_more_item : {A B : Type 0} (items : B → List Item) (f : A → B) (xs : List A) (i : ℕ) (x : A) (base out after : List ℕ) → i < length xs → x ≡ get_or xs i x
+    → out ++ render (flat_map items (map f (drop i xs))) ≡ base ++ render (flat_map items (map f xs)) → after ≡ out ++ render (items (f x))
+    → after ++ render (flat_map items (map f (drop (i + 1) xs))) ≡ base ++ render (flat_map items (map f xs))
+one_more_item items f =
+    one_more (λ rest. render (flat_map items (map f rest))) (λ one. render (items (f one))) (λ one rest. flat_map-append item_text (items (f one)) (flat_map items (map f rest)))
+
+-- a list of items to its end
+pub all_items : {A B : Type 0} (items : B → List Item) (f : A → B) (xs : List A) (i : ℕ) (base out : List ℕ) → length xs ≤ i
+    → out ++ render (flat_map items (map f (drop i xs))) ≡ base ++ render (flat_map items (map f xs)) → out ≡ base ++ render (flat_map items (map f xs))
+all_items items f xs i base out whole is =
+    sym (append-nil out) ∙ ap (λ text. out ++ text) (sym (at_drop_all (λ rest. render (flat_map items (map f rest))) xs i whole)) ∙ is
+
 -- what holds of each element of a map holds at each element
 pub at_map : {A B : Type 0} (P : B → Type 0) (f : A → B) (xs : List A) (i : ℕ) (x : A) → All P (map f xs) → i < length xs → x ≡ get_or xs i x → P (f x)
 at_map P f xs i x all within is =
@@ -62,6 +75,10 @@ at_map P f xs i x all within is =
 -- what stands behind the first element
 rest_of : {A : Type 0} (xs : List A) → take (length xs - 1) (drop 1 xs) ≡ drop 1 xs
 rest_of xs = let short : length (drop 1 xs) ≤ length xs - 1 = omega (arith, length-drop 1 xs) in take_all (length xs - 1) (drop 1 xs) short
+
+-- what holds of each element holds of each behind the first
+pub all_tail : {A : Type 0} (P : A → Type 0) (xs : List A) → All P xs → All P (take (length xs - 1) (drop 1 xs))
+all_tail P xs all = subst (All P) (sym (rest_of xs)) (All-drop P 1 xs all)
 
 -- what holds of each element of a map holds of each behind the first
 pub all_rest : {A B : Type 0} (P : B → Type 0) (f : A → B) (xs : List A) → All P (map f xs) → All P (map f (take (length xs - 1) (drop 1 xs)))

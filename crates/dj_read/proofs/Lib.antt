@@ -1,7 +1,3 @@
-pub mod HelperNames
-pub mod ListTests
-pub mod SameLists
-pub mod JoinedNames
 pub mod WordsLemmas
 pub mod NamesLemmas
 pub mod TypesLemmas

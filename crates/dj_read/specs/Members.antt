@@ -1,5 +1,5 @@
 -- Members of a class or interface read from words (JLS 8, 9).
-use Rattle.std.specs.Prelude.{ℕ, zero, suc, Bool, true, if◌then◌else◌, List, [], ◌∷◌, ◌++◌, drop, Option, Some, None, bit_or, codes}
+use Rattle.std.specs.Prelude.{ℕ, zero, suc, Bool, true, if◌then◌else◌, List, [], ◌∷◌, ◌++◌, drop, Option, Some, None, option_map, bit_or, codes}
 use Rattle.dj_names.specs.Types.{JType, Int, Descriptor, Method}
 use Rattle.dj_syntax.specs.Trees.{Exp, Stm, Body, FieldText, MethodText, stms_of}
 use Rattle.dj_syntax.specs.WellFormed.{held_field, held_method}
@@ -68,6 +68,26 @@ method_of place bits name descriptor thrown (Some statements) =
     let shown = head_of bits name descriptor thrown None in
     let flags = held_method place.interface (head_of bits name descriptor thrown (Some (body_of place shown statements))) in
     head_of flags name descriptor thrown (Some (body_of place (head_of flags name descriptor thrown None) statements))
+
+-- a body with other flags
+abbrev pub body_with : ℕ → Body → Body
+body_with flags body = record {
+  class = body.class;
+  flags = flags;
+  name = body.name;
+  descriptor = body.descriptor;
+  thrown = body.thrown;
+  statements = body.statements;
+}
+
+-- a method with these flags, which its body has too
+abbrev pub flagged : ℕ → List ℕ → Descriptor → List (List ℕ) → Option Body → MethodText
+flagged flags name descriptor thrown body = head_of flags name descriptor thrown (option_map (body_with flags) body)
+
+-- a method whose flags, and its body's, are those that the bits of its head stand for
+abbrev pub with_flags : Place → ℕ → List ℕ → Descriptor → List (List ℕ) → Option Body → MethodText
+with_flags place bits name descriptor thrown body =
+    flagged (held_method place.interface (head_of bits name descriptor thrown body)) name descriptor thrown body
 
 -- a method from the parenthesis of its parameters on
 abbrev pub read_method : Place → ℕ → List ℕ → Option JType → Words → MethodText × Words

@@ -6,14 +6,14 @@ ghost use Rattle.dj_read.specs.Bodies.{no_blocks, between, ends_body, close_bloc
 ghost use Rattle.dj_read.specs.Readings.{view_reading, view_outer, view_blocks};
 
 use crate::values::Reading;
-use crate::words::Reader;
+use crate::words::{Reader, is_word};
 use dj_names::Items;
 use dj_syntax::Stm;
 use std::alloc::{AllocError, Global};
 
 /// How far a body is read: the statements before each block that is open, the innermost last, those
 /// of the innermost block, and the value of a `return` that isn't ended.
-#[derive(Debug, Drop)]
+#[derive(Drop)]
 struct Blocks {
     outer: Items<Items<Stm>>,
     statements: Items<Stm>,
@@ -36,7 +36,7 @@ impl Blocks {
     fn are_ended_by(&self, word: &[u8]) -> bool
         ensures ends { result ≡ ends_body (view_blocks self.now).outer (view_blocks self.now).value word.now }
     {
-        self.outer.is_empty() && self.value.is_none() && word == b"}".as_slice()
+        self.outer.is_empty() && self.value.is_none() && is_word(word, b"}")
     }
 
     /// A word more is read.
@@ -79,21 +79,21 @@ fn read_between(
 ) -> Result<Blocks, AllocError>
     ensures read { IfOk result (λ blocks. view_blocks blocks ≡ read_between (between (view_outer outer) (map view_stm statements)) word.now) }
 {
-    if word == b"return".as_slice() {
+    if is_word(word, b"return") {
         let value = Some(Reading::new(alloc));
         Ok(Blocks {
             outer,
             statements,
             value,
         })
-    } else if word == b"{".as_slice() {
+    } else if is_word(word, b"{") {
         outer.push(statements)?;
         Ok(Blocks {
             outer,
             statements: Items::new(alloc),
             value: None,
         })
-    } else if word == b"}".as_slice() {
+    } else if is_word(word, b"}") {
         close_block(outer, statements)
     } else {
         Ok(Blocks {
@@ -132,15 +132,19 @@ fn read_return(
 ) -> Result<Blocks, AllocError>
     ensures read { IfOk result (λ blocks. view_blocks blocks ≡ read_return (between (view_outer outer) (map view_stm statements)) (view_reading reading) word.now) }
 {
-    let value = if word == b";".as_slice() {
+    if is_word(word, b";") {
         statements.push(Stm::Return(reading.standing()))?;
-        None
+        Ok(Blocks {
+            outer,
+            statements,
+            value: None,
+        })
     } else {
-        Some(reading.read_word(alloc, word)?)
-    };
-    Ok(Blocks {
-        outer,
-        statements,
-        value,
-    })
+        let value = Some(reading.read_word(alloc, word)?);
+        Ok(Blocks {
+            outer,
+            statements,
+            value,
+        })
+    }
 }

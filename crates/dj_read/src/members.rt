@@ -27,14 +27,14 @@ const BEFORE_HELPER_NAME: usize = 14;
 const FROM_HELPER_NAME: usize = 19;
 
 /// Where a member stands: whether its unit is an interface, and the name of its class.
-#[derive(Debug, Drop)]
+#[derive(Drop)]
 pub struct Place {
     pub interface: bool,
     pub class: ClassName,
 }
 
 /// The members that are read so far.
-#[derive(Debug, Drop)]
+#[derive(Drop)]
 pub struct Members {
     pub fields: Items<FieldText>,
     pub helper: Option<Units>,

@@ -5,10 +5,12 @@ ghost use Rattle.dj_names.specs.Types.{Class, view_type, view_types};
 ghost use Rattle.dj_read.specs.Words.{comes};
 ghost use Rattle.dj_read.specs.Names.{IsWhole, more_type, read_name, read_names, read_parameters, read_result, read_type, type_of};
 
-use crate::well_formed::names::SLASH;
-use crate::words::Reader;
+use crate::words::{Reader, is_word};
 use dj_names::{ClassName, Items, JType, Shared, Units};
 use std::alloc::{AllocError, Global};
+
+/// What stands between the segments of a class's name.
+pub const SLASH: u16 = b'/' as u16;
 
 /// The units of a word.
 pub fn units_of(alloc: Global, word: &[u8]) -> Result<Units, AllocError>
@@ -98,21 +100,21 @@ fn primitive(word: &[u8]) -> Option<JType>
     ensures kind { MatchOption result (type_of word.now ≡ Class word.now) (λ kind. type_of word.now ≡ view_type kind) }
     ensures whole { IfSome result (λ kind. IsWhole (view_type kind)) }
 {
-    if word == b"boolean".as_slice() {
+    if is_word(word, b"boolean") {
         Some(JType::Boolean)
-    } else if word == b"byte".as_slice() {
+    } else if is_word(word, b"byte") {
         Some(JType::Byte)
-    } else if word == b"char".as_slice() {
+    } else if is_word(word, b"char") {
         Some(JType::Char)
-    } else if word == b"short".as_slice() {
+    } else if is_word(word, b"short") {
         Some(JType::Short)
-    } else if word == b"int".as_slice() {
+    } else if is_word(word, b"int") {
         Some(JType::Int)
-    } else if word == b"long".as_slice() {
+    } else if is_word(word, b"long") {
         Some(JType::Long)
-    } else if word == b"float".as_slice() {
+    } else if is_word(word, b"float") {
         Some(JType::Float)
-    } else if word == b"double".as_slice() {
+    } else if is_word(word, b"double") {
         Some(JType::Double)
     } else {
         None

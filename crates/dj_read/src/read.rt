@@ -7,10 +7,10 @@ ghost use Rattle.dj_syntax.specs.WellFormed.{IsWellFormed};
 ghost use Rattle.dj_read.specs.Faults.{IsReadUnitFault};
 
 use crate::units::unit_from_words;
-use crate::well_formed::is_well_formed;
 use crate::words::Reader;
 use dj_print::unit_bytes;
 use dj_syntax::Unit;
+use dj_well_formed::is_well_formed;
 use std::alloc::{AllocError, Global};
 use thiserror::Error;
 

@@ -5,8 +5,7 @@ ghost use Rattle.dj_syntax.specs.Trees.{view_unit};
 ghost use Rattle.dj_read.specs.Units.{class_flags, name_in, read_package, read_superclass, read_unit};
 
 use crate::members::{Place, read_members, read_modifiers};
-use crate::names::{read_name, read_names, units_of};
-use crate::well_formed::names::SLASH;
+use crate::names::{SLASH, read_name, read_names, units_of};
 use crate::words::Reader;
 use dj_names::{ClassName, Units};
 use dj_syntax::{Unit, held_class};

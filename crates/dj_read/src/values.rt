@@ -5,13 +5,13 @@ ghost use Rattle.dj_syntax.specs.Trees.{view_exp};
 ghost use Rattle.dj_read.specs.Values.{number_of, positive, negative, kind_of, atom_of, operator_of, Wanted, Stands, give, close, read_word, standing, read_value};
 ghost use Rattle.dj_read.specs.Readings.{view_open, view_reading};
 
-use crate::words::Reader;
+use crate::words::{Reader, is_word};
 use dj_names::{Boxed, Items};
 use dj_syntax::{Exp, Op, Var, VarKind};
 use std::alloc::{AllocError, Global};
 
 /// What is open around an operand: a parenthesis, or an operator with its left operand.
-#[derive(Debug, Drop)]
+#[derive(Drop)]
 pub enum Pending {
     Parenthesis,
     Left(Exp, Op),
@@ -19,7 +19,7 @@ pub enum Pending {
 
 /// How far an expression is read: an operand is wanted, or digits behind a minus sign are, or one
 /// stands. What is open has the innermost last.
-#[derive(Debug, Drop)]
+#[derive(Drop)]
 pub enum Reading {
     Wanted(Items<Pending>),
     Minus(Items<Pending>),
@@ -75,10 +75,10 @@ fn read_operand(
 ) -> Result<Reading, AllocError>
     ensures read { IfOk result (λ reading. view_reading reading ≡ read_word (Wanted (view_open pending)) word.now) }
 {
-    if word == b"(".as_slice() {
+    if is_word(word, b"(") {
         pending.push(Pending::Parenthesis)?;
         Ok(Reading::Wanted(pending))
-    } else if word == b"-".as_slice() {
+    } else if is_word(word, b"-") {
         Ok(Reading::Minus(pending))
     } else {
         give(alloc, atom(word), pending)
@@ -94,7 +94,7 @@ fn read_operator(
 ) -> Result<Reading, AllocError>
     ensures read { IfOk result (λ reading. view_reading reading ≡ read_word (Stands (view_exp value) (view_open pending)) word.now) }
 {
-    if word == b")".as_slice() {
+    if is_word(word, b")") {
         close(alloc, value, pending)
     } else {
         pending.push(Pending::Left(value, operator(word)))?;

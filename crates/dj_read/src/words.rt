@@ -2,12 +2,12 @@
 
 ghost use Rattle.std.specs.Prelude.{◌≡◌, ◌≤◌, ◌↔◌, [], take, drop, length, false, IsTrue};
 ghost use Rattle.std.specs.List.{take_while};
-ghost use Rattle.dj_read.specs.Words.{words, first_word, other_words, comes, is_letter, is_operator, is_blank, begins};
+ghost use Rattle.dj_read.specs.Words.{words, first_word, other_words, comes, is_word, is_letter, is_operator, is_blank, begins};
 
 use std::marker::Model;
 
 /// The rest of a text, which contracts see as its words.
-#[derive(Debug, Drop)]
+#[derive(Drop)]
 pub struct Reader<'a> {
     text: &'a [u8],
 }
@@ -68,7 +68,7 @@ impl<'a> Reader<'a> {
     pub fn is_at(&self, word: &[u8]) -> bool
         ensures comes { result ≡ comes word.now self.now }
     {
-        self.first() == word
+        is_word(self.first(), word)
     }
 
     /// Whether this word comes next, behind the first.
@@ -86,6 +86,13 @@ impl<'a> Reader<'a> {
     {
         past_blanks(self.text).is_empty()
     }
+}
+
+/// Whether a word is this one.
+pub fn is_word(word: &[u8], other: &[u8]) -> bool
+    ensures same { result ≡ is_word word.now other.now }
+{
+    word == other
 }
 
 /// A text from its first word on.

@@ -17,7 +17,7 @@ use std::alloc::{AllocError, Global};
 const LEVELS: usize = 64;
 
 /// What the code of a method is rebuilt as.
-#[derive(Debug, Drop)]
+#[derive(Drop)]
 pub enum Rebuilt {
     /// The expression that it returns.
     Tree(Exp),
@@ -26,7 +26,7 @@ pub enum Rebuilt {
 }
 
 /// The tree of a formula, with its height.
-#[derive(Debug, Drop)]
+#[derive(Drop)]
 struct Node {
     exp: Exp,
     levels: usize,

@@ -22,7 +22,7 @@ use dj_syntax::{Body, Exp, Stm, is_interface, method_bits};
 use std::alloc::{AllocError, Global};
 
 /// What is found of a method.
-#[derive(Debug, Drop)]
+#[derive(Drop)]
 pub enum Judged {
     /// It returns this expression.
     Straight(Exp),

@@ -8,7 +8,7 @@ use dj_names::Boxed;
 use std::alloc::{AllocError, Global};
 
 /// An expression.
-#[derive(Debug, Drop)]
+#[derive(Drop)]
 pub enum Exp {
     /// An int literal, a negative one with its sign.
     Int(i32),

@@ -2,7 +2,7 @@
 
 /// A binary operator, in the order in which their spellings are listed:
 /// `* / % + - << >> >>> < <= > >= == != & ^ | && ||`.
-#[derive(Clone, Copy, Debug, PartialEq, Eq)]
+#[derive(Clone, Copy, PartialEq, Eq)]
 pub enum Op {
     Mul,
     Div,

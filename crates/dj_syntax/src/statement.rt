@@ -7,7 +7,7 @@ use dj_names::Items;
 use std::alloc::{AllocError, Global};
 
 /// A statement.
-#[derive(Debug, Drop)]
+#[derive(Drop)]
 pub enum Stm {
     Block(Items<Stm>),
     Return(Option<Exp>),

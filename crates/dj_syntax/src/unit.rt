@@ -8,7 +8,7 @@ use dj_names::{ClassName, Descriptor, Items, JType, Units, copy_names};
 use std::alloc::{AllocError, Global};
 
 /// A unit: the package that it is in, and its class or interface.
-#[derive(Debug, Drop)]
+#[derive(Drop)]
 pub struct Unit {
     /// The package, with `/` between its segments; None for the unnamed one.
     pub package: Option<ClassName>,
@@ -26,7 +26,7 @@ pub struct Unit {
 }
 
 /// A field of a unit.
-#[derive(Debug, Drop)]
+#[derive(Drop)]
 pub struct FieldText {
     /// The flags (JVMS 4.5) that the text shows or implies.
     pub flags: u16,
@@ -36,7 +36,7 @@ pub struct FieldText {
 }
 
 /// A method, constructor or static initialiser of a unit.
-#[derive(Debug, Drop)]
+#[derive(Drop)]
 pub struct MethodText {
     /// The flags (JVMS 4.6) that the text shows or implies.
     pub flags: u16,
@@ -48,7 +48,7 @@ pub struct MethodText {
 }
 
 /// The body of a method, with the head of the method in which it stands.
-#[derive(Debug, Drop)]
+#[derive(Drop)]
 pub struct Body {
     pub class: ClassName,
     pub flags: u16,
@@ -63,17 +63,62 @@ impl Unit {
     pub fn copy(&self, alloc: Global) -> Result<Unit, AllocError>
         ensures equal { IfOk result (λ copy. copy ≡ self.now) }
     {
+        // Each part is one value till all are there, so that an exit between them drops little.
+        let own = copy_own_names(alloc, self)?;
+        let above = copy_names_above(alloc, self)?;
+        let members = copy_members(alloc, self)?;
+        let (package, name) = own;
+        let (superclass, interfaces) = above;
+        let (fields, helper, methods) = members;
         Ok(Unit {
-            package: copy_name(alloc, &self.package)?,
+            package,
             flags: self.flags,
-            name: self.name.copy(alloc)?,
-            superclass: copy_name(alloc, &self.superclass)?,
-            interfaces: copy_names(alloc, self.interfaces.as_slice())?,
-            fields: copy_fields(alloc, self.fields.as_slice())?,
-            helper: copy_helper(alloc, &self.helper)?,
-            methods: copy_methods(alloc, self.methods.as_slice())?,
+            name,
+            superclass,
+            interfaces,
+            fields,
+            helper,
+            methods,
         })
     }
+}
+
+/// The package and the name of a unit.
+type OwnNames = (Option<ClassName>, Units);
+
+/// The superclass and the interfaces of a unit.
+type NamesAbove = (Option<ClassName>, Items<ClassName>);
+
+/// The fields, the helper and the methods of a unit.
+type UnitMembers = (Items<FieldText>, Option<Units>, Items<MethodText>);
+
+/// The name, the descriptor and the thrown classes of a method.
+type MethodHead = (Units, Descriptor, Items<ClassName>);
+
+fn copy_own_names(alloc: Global, unit: &Unit) -> Result<OwnNames, AllocError>
+    ensures equal { IfOk result (λ copy. copy ≡ (unit.now.«package», unit.now.name)) }
+{
+    let package = copy_name(alloc, &unit.package)?;
+    Ok((package, unit.name.copy(alloc)?))
+}
+
+fn copy_names_above(alloc: Global, unit: &Unit) -> Result<NamesAbove, AllocError>
+    ensures equal { IfOk result (λ copy. copy ≡ (unit.now.superclass, unit.now.interfaces)) }
+{
+    let superclass = copy_name(alloc, &unit.superclass)?;
+    Ok((superclass, copy_names(alloc, unit.interfaces.as_slice())?))
+}
+
+fn copy_members(alloc: Global, unit: &Unit) -> Result<UnitMembers, AllocError>
+    ensures equal { IfOk result (λ copy. copy ≡ (unit.now.fields, unit.now.helper, unit.now.methods)) }
+{
+    let fields = copy_fields(alloc, unit.fields.as_slice())?;
+    let helper = copy_helper(alloc, &unit.helper)?;
+    Ok((
+        fields,
+        helper,
+        copy_methods(alloc, unit.methods.as_slice())?,
+    ))
 }
 
 impl FieldText {
@@ -95,12 +140,19 @@ impl MethodText {
     pub fn copy(&self, alloc: Global) -> Result<MethodText, AllocError>
         ensures equal { IfOk result (λ copy. copy ≡ self.now) }
     {
+        let body = copy_body(alloc, &self.body)?;
+        let (name, descriptor, thrown) = copy_head(
+            alloc,
+            &self.name,
+            &self.descriptor,
+            &self.thrown,
+        )?;
         Ok(MethodText {
             flags: self.flags,
-            name: self.name.copy(alloc)?,
-            descriptor: self.descriptor.copy(alloc)?,
-            thrown: copy_names(alloc, self.thrown.as_slice())?,
-            body: copy_body(alloc, &self.body)?,
+            name,
+            descriptor,
+            thrown,
+            body,
         })
     }
 }
@@ -110,15 +162,36 @@ impl Body {
     pub fn copy(&self, alloc: Global) -> Result<Body, AllocError>
         ensures equal { IfOk result (λ copy. copy ≡ self.now) }
     {
+        let class = self.class.copy(alloc)?;
+        let statements = copy_list(alloc, self.statements.as_slice())?;
+        let (name, descriptor, thrown) = copy_head(
+            alloc,
+            &self.name,
+            &self.descriptor,
+            &self.thrown,
+        )?;
         Ok(Body {
-            class: self.class.copy(alloc)?,
+            class,
             flags: self.flags,
-            name: self.name.copy(alloc)?,
-            descriptor: self.descriptor.copy(alloc)?,
-            thrown: copy_names(alloc, self.thrown.as_slice())?,
-            statements: copy_list(alloc, self.statements.as_slice())?,
+            name,
+            descriptor,
+            thrown,
+            statements,
         })
     }
+}
+
+fn copy_head(
+    alloc: Global,
+    name: &Units,
+    descriptor: &Descriptor,
+    thrown: &Items<ClassName>,
+) -> Result<MethodHead, AllocError>
+    ensures equal { IfOk result (λ copy. copy ≡ (name.now, descriptor.now, thrown.now)) }
+{
+    let thrown = copy_names(alloc, thrown.as_slice())?;
+    let name = name.copy(alloc)?;
+    Ok((name, descriptor.copy(alloc)?, thrown))
 }
 
 fn copy_name(alloc: Global, name: &Option<ClassName>) -> Result<Option<ClassName>, AllocError>

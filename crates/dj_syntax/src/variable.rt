@@ -1,7 +1,7 @@
 //! Variables of a body.
 
 /// What a variable is for; it decides the letter of its spelling.
-#[derive(Clone, Copy, Debug, PartialEq, Eq)]
+#[derive(Clone, Copy, PartialEq, Eq)]
 pub enum VarKind {
     /// A parameter, spelled `p`.
     Param,
@@ -14,7 +14,7 @@ pub enum VarKind {
 }
 
 /// A variable, spelled as its kind's letter and its number.
-#[derive(Clone, Copy, Debug, PartialEq, Eq)]
+#[derive(Clone, Copy, PartialEq, Eq)]
 pub struct Var {
     pub kind: VarKind,
     pub number: u32,

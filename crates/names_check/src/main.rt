@@ -9,12 +9,17 @@ use std::alloc::Global;
 use std::io;
 use std::io::{BufRead, BufReader, BufWriter, Write};
 
+/// The unit that two bytes are.
+fn unit_of(high: u8, low: u8) -> u16 {
+    u16::from(high) * 256 + u16::from(low)
+}
+
 /// The units that pairs of bytes are, the high byte first.
 fn units_of(alloc: Global, bytes: &[u8]) -> Result<Units> {
     let mut units = Vec::new(alloc);
     for pair in bytes.chunks_exact(2) {
         if let [high, low] = pair {
-            units.push(u16::from(*high) * 256 + u16::from(*low))?;
+            units.push(unit_of(*high, *low))?;
         }
     }
     Ok(Units::from_vec(units)?)

@@ -3,6 +3,8 @@
 //! No layer stands above it: `bench/first_path` runs it on large texts.
 #![tactic(auto)]
 
+ghost use Rattle.std.specs.Prelude.{◌<◌, length};
+
 use dj_outer::{DiskFiles, Files, Loaded};
 use dj_read::{ReadUnitFault, read_unit};
 use std::alloc::{AllocError, Global};
@@ -11,10 +13,17 @@ use std::env;
 /// The most bytes that a text may have.
 const MOST_BYTES: usize = 1 << 30;
 
+/// The bytes behind the one at this place.
+fn behind(text: &[u8], place: usize) -> &[u8]
+    requires inside { place < length text.now }
+{
+    &text[place + 1..]
+}
+
 /// The lines behind the first one, which names the file that the text belongs in.
 fn unit_text(text: &[u8]) -> &[u8] {
     match text.iter().position(|byte| *byte == b'\n') {
-        Some(end) => &text[end + 1..],
+        Some(end) => behind(text, end),
         None => &[],
     }
 }

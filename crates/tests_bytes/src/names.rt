@@ -1,218 +1,146 @@
-//! Names, descriptors and members, with values from the specifications of the machine and of the language.
+//! Copies of descriptors, headers and members, and order among names; the stored run of `names_check` shows what is read and what is told of it.
 use dj_names::{
     ClassMembers, ClassName, Constant, Descriptor, Field, Header, Headers, Items, JType, Members,
-    MethodHead, NameFault, StaticType, Units, is_above_arrays, is_identifier, read_descriptor,
-    read_units, write_units,
+    MethodHead, NameFault, StaticType, Units, is_above_arrays, read_descriptor, read_units,
 };
-use std::alloc::Global;
+use std::alloc::{AllocError, Global};
 use std::test::Fail;
 
 fn units(alloc: Global, text: &str) -> Result<Units, NameFault> {
     read_units(alloc, text.as_bytes())
 }
 
-/// The units of `count` times `letter` between `front` and `back`.
-fn repeated(
-    alloc: Global,
-    front: &str,
-    letter: &str,
-    count: usize,
-    back: &str,
-) -> Result<Units, Fail> {
-    let mut text = String::from_str(alloc, front)?;
-    for _ in 0..count {
-        text.push_str(letter)?;
-    }
-    text.push_str(back)?;
-    Ok(units(alloc, text.as_str())?)
+fn class_name(alloc: Global, text: &str) -> Result<ClassName, NameFault> {
+    Ok(ClassName::new(units(alloc, text)?))
 }
 
-#[test]
-fn descriptors_are_read_up_to_their_limits(rt: HostRuntime) -> Result<(), Fail> {
-    let alloc = rt.alloc();
-    for (front, letter, count, back) in [
-        ("Ljava/lang/Object;", "", 0, ""),
-        ("", "[", 255, "I"),
-        ("(I", "J", 127, ")V"),
-    ] {
-        let read = read_descriptor(alloc, &repeated(alloc, front, letter, count, back)?);
-        assert!(rt; read.is_ok(), "at {front}{letter}");
-    }
-    Ok(())
+fn one<T: Drop>(alloc: Global, item: T) -> Result<Items<T>, AllocError> {
+    let mut items = Items::new(alloc);
+    items.push(item)?;
+    Ok(items)
 }
 
-#[test]
-fn a_fault_is_where_no_descriptor_goes_on(rt: HostRuntime) -> Result<(), Fail> {
-    let alloc = rt.alloc();
-    for (front, letter, count, back, place) in [
-        ("(V)V", "", 0, "", 1),
-        ("[", "", 0, "", 1),
-        ("II", "", 0, "", 1),
-        ("", "", 0, "", 0),
-        ("Ljava//lang;", "", 0, "", 6),
-        ("L;", "", 0, "", 1),
-        ("(LA", "", 0, "", 3),
-        ("V", "", 0, "", 0),
-        ("", "[", 256, "I", 255),
-        ("(", "J", 128, ")V", 128),
-    ] {
-        let fault = read_descriptor(alloc, &repeated(alloc, front, letter, count, back)?);
-        assert!(rt;
-            matches!(fault, Err(NameFault::BadDescriptor(at)) if at == place),
-            "at {front}{letter}"
-        );
-    }
-    Ok(())
+/// Whether this is `([ILA;J)V`.
+fn has_its_parts(descriptor: &Descriptor) -> bool {
+    let Descriptor::Method {
+        parameters,
+        result: None,
+    } = descriptor
+    else {
+        return false;
+    };
+    let [JType::Array(element), JType::Class(name), JType::Long] = parameters.as_slice() else {
+        return false;
+    };
+    matches!(element.get(), JType::Int) && name.as_slice() == [65].as_slice()
+}
+
+fn copied_descriptor(alloc: Global, text: &str) -> Result<Descriptor, NameFault> {
+    let read = read_descriptor(alloc, &units(alloc, text)?)?;
+    Ok(read.copy(alloc)?)
 }
 
 #[test]
 fn a_copied_descriptor_has_its_parts(rt: HostRuntime) -> Result<(), Fail> {
-    let alloc = rt.alloc();
-    let read = read_descriptor(alloc, &units(alloc, "([ILA;J)V")?)?;
-    let Descriptor::Method {
-        parameters,
-        result: None,
-    } = read.copy(alloc)?
-    else {
-        return Err(Fail::new("no method without a result"));
-    };
-    let [JType::Array(element), JType::Class(name), JType::Long] = parameters.as_slice() else {
-        return Err(Fail::new("other parameters"));
-    };
-    assert!(rt; matches!(element.get(), JType::Int));
-    assert_eq!(rt; name.as_slice(), [65].as_slice());
+    let copy = copied_descriptor(rt.alloc(), "([ILA;J)V")?;
+    assert!(rt; has_its_parts(&copy));
     Ok(())
 }
 
-#[test]
-fn units_are_read_and_written(rt: HostRuntime) -> Result<(), Fail> {
-    let alloc = rt.alloc();
-    for (bytes, wanted) in [
-        ([0xc0, 0x80].as_slice(), [0].as_slice()),
-        (&[0xed, 0xa0, 0x80], &[0xd800]),
-        (&[0x41, 0xc2, 0x80, 0xdf, 0xbf], &[0x41, 0x80, 0x7ff]),
-        (&[0xe0, 0xa0, 0x80, 0xef, 0xbf, 0xbf], &[0x800, 0xffff]),
-    ] {
-        let read = read_units(alloc, bytes)?;
-        assert_eq!(rt; read.as_slice(), wanted);
-        assert_eq!(rt; write_units(alloc, &read)?.as_slice(), bytes);
-    }
-    Ok(())
+/// Whether the name equals its copy and comes before the other.
+fn stands_before(alloc: Global, name: &ClassName, other: &ClassName) -> Result<bool, AllocError> {
+    Ok(*name == name.copy(alloc)? && name < other)
 }
 
 #[test]
-fn a_fault_is_where_no_unit_is_spelled(rt: HostRuntime) {
-    for (bytes, place) in [
-        ([0xc1, 0x81].as_slice(), 0),
-        (&[0x41, 0xf0], 1),
-        (&[0x41, 0x00], 1),
-        (&[0x41, 0xe0, 0x9f, 0xbf], 1),
-        (&[0x41, 0x42, 0xc2], 2),
-        (&[0xe1, 0x80], 0),
-        (&[0xc2, 0x41], 0),
-    ] {
-        let fault = read_units(rt.alloc(), bytes);
-        assert!(rt;
-            matches!(fault, Err(NameFault::BadUnits(at)) if at == place),
-            "at {bytes:?}"
-        );
-    }
-}
-
-#[test]
-fn identifiers_are_told(rt: HostRuntime) -> Result<(), Fail> {
-    let alloc = rt.alloc();
-    for (name, wanted) in [
-        ("_", true),
-        ("$", true),
-        ("x9", true),
-        ("Main$1", true),
-        ("Goto", true),
-        ("_try", true),
-        ("", false),
-        ("9x", false),
-        ("a-b", false),
-        ("a.b", false),
-    ] {
-        assert_eq!(rt; is_identifier(&units(alloc, name)?), wanted, "at {name}");
-    }
+fn names_are_compared(rt: HostRuntime) -> Result<(), Fail> {
+    let name = class_name(rt.alloc(), "a/B")?;
+    let later = class_name(rt.alloc(), "a/C")?;
+    assert!(rt; stands_before(rt.alloc(), &name, &later)?);
     Ok(())
 }
 
-/// The keywords and literals of the language (JLS 3.9), in its order.
-const RESERVED: &str = "abstract continue for new switch assert default if package synchronized \
-    boolean do goto private this break double implements protected throw byte else import public \
-    throws case enum instanceof return transient catch extends int short try char final interface \
-    static void class finally long strictfp volatile const float native super while \
-    true false null";
-
-#[test]
-fn reserved_words_are_no_identifiers(rt: HostRuntime) -> Result<(), Fail> {
-    let alloc = rt.alloc();
-    for word in RESERVED.split(' ') {
-        assert!(rt; !is_identifier(&units(alloc, word)?), "at {word}");
-    }
-    Ok(())
+fn shown(alloc: Global, name: &ClassName) -> Result<String, AllocError> {
+    format!(in alloc; "{name}")
 }
 
 #[test]
-fn names_are_compared_and_shown(rt: HostRuntime) -> Result<(), Fail> {
-    let alloc = rt.alloc();
-    let name = ClassName::new(units(alloc, "a/B")?);
-    let later = ClassName::new(units(alloc, "a/C")?);
-    assert!(rt; name == name.copy(alloc)? && name < later);
-    let odd = Units::from_slice(alloc, &[0x43, 0x5c, 0xe9, 0x20, 0xffff])?;
-    let shown = format!(in alloc; "{name} {odd}")?;
-    assert_eq!(rt; shown.as_str(), "a/B C\\u005c\\u00e9\\u0020\\uffff");
+fn names_are_shown(rt: HostRuntime) -> Result<(), Fail> {
+    let name = class_name(rt.alloc(), "a/B")?;
+    assert_eq!(rt; shown(rt.alloc(), &name)?.as_str(), "a/B");
     Ok(())
+}
+
+fn header(alloc: Global) -> Result<Header, NameFault> {
+    Ok(Header {
+        name: class_name(alloc, "A")?,
+        superclass: Some(class_name(alloc, "java/lang/Object")?),
+        interfaces: Items::new(alloc),
+        flags: 0x21,
+    })
+}
+
+fn copied_headers(alloc: Global) -> Result<Headers, NameFault> {
+    let mut headers = Headers::new(alloc);
+    headers.push(header(alloc)?)?;
+    Ok(headers.copy(alloc)?)
 }
 
 #[test]
 fn headers_are_copied(rt: HostRuntime) -> Result<(), Fail> {
-    let alloc = rt.alloc();
-    let mut headers = Headers::new(alloc);
-    headers.push(Header {
-        name: ClassName::new(units(alloc, "A")?),
-        superclass: Some(ClassName::new(units(alloc, "java/lang/Object")?)),
-        interfaces: Items::new(alloc),
-        flags: 0x21,
-    })?;
-    assert_eq!(rt; headers.copy(alloc)?.as_slice().len(), 1);
+    let copy = copied_headers(rt.alloc())?;
+    assert_eq!(rt; copy.as_slice().len(), 1);
     Ok(())
 }
 
-#[test]
-fn members_are_copied(rt: HostRuntime) -> Result<(), Fail> {
-    let alloc = rt.alloc();
-    let mut fields = Items::new(alloc);
-    fields.push(Field {
+fn field(alloc: Global) -> Result<Field, NameFault> {
+    Ok(Field {
         flags: 8,
         name: units(alloc, "x")?,
         descriptor: JType::Int,
         constant: Some(Constant::Int(5)),
-    })?;
-    let mut methods = Items::new(alloc);
-    methods.push(MethodHead {
+    })
+}
+
+fn method(alloc: Global) -> Result<MethodHead, NameFault> {
+    Ok(MethodHead {
         flags: 8,
         name: units(alloc, "f")?,
         descriptor: Descriptor::Field(JType::Int),
         thrown: Items::new(alloc),
-    })?;
-    let mut classes = Items::new(alloc);
-    classes.push(ClassMembers {
-        fields,
-        methods,
+    })
+}
+
+fn members_of_a_class(alloc: Global) -> Result<ClassMembers, NameFault> {
+    Ok(ClassMembers {
+        fields: one(alloc, field(alloc)?)?,
+        methods: one(alloc, method(alloc)?)?,
         named: Items::new(alloc),
-    })?;
-    let copy = Members { classes }.copy(alloc)?;
-    let [class] = copy.classes.as_slice() else {
-        return Err(Fail::new("no single class"));
+    })
+}
+
+fn copied_members(alloc: Global) -> Result<Members, NameFault> {
+    let members = Members {
+        classes: one(alloc, members_of_a_class(alloc)?)?,
+    };
+    Ok(members.copy(alloc)?)
+}
+
+/// Whether there is one class, with a field of the flags 8 and a method.
+fn has_its_members(members: &Members) -> bool {
+    let [class] = members.classes.as_slice() else {
+        return false;
     };
     let [field] = class.fields.as_slice() else {
-        return Err(Fail::new("no single field"));
+        return false;
     };
-    assert_eq!(rt; field.flags, 8);
-    assert_eq!(rt; class.methods.len(), 1);
+    field.flags == 8 && class.methods.len() == 1
+}
+
+#[test]
+fn members_are_copied(rt: HostRuntime) -> Result<(), Fail> {
+    let copy = copied_members(rt.alloc())?;
+    assert!(rt; has_its_members(&copy));
     Ok(())
 }
 
@@ -225,7 +153,7 @@ fn static_types_are_copied(rt: HostRuntime) -> Result<(), Fail> {
 
 #[test]
 fn arrays_are_cloneable(rt: HostRuntime) -> Result<(), Fail> {
-    let cloneable = ClassName::new(units(rt.alloc(), "java/lang/Cloneable")?);
+    let cloneable = class_name(rt.alloc(), "java/lang/Cloneable")?;
     assert!(rt; is_above_arrays(&cloneable));
     Ok(())
 }

@@ -1,5 +1,5 @@
 //! Tests of the layer of text: texts are read, copied and printed again, and other bytes are misread.
-//! It stands on `dj_names`, `dj_syntax`, `dj_print` and `dj_read`, whose public calls it makes.
+//! It stands on `dj_names`, `dj_syntax`, `dj_print`, `dj_well_formed` and `dj_read`, whose public calls it makes.
 //! No layer stands above it.
 #![tactic(auto)]
 

@@ -2,7 +2,9 @@
 
 use crate::texts::{DIFFERENCE, FINAL_CLASS, printed_again};
 use dj_names::{ClassName, Units};
-use dj_read::{is_well_formed, read_unit};
+use dj_read::read_unit;
+use dj_syntax::Unit;
+use dj_well_formed::is_well_formed;
 use std::alloc::{AllocError, Global};
 use std::test::*;
 
@@ -15,11 +17,14 @@ const NO_TEXTS: &[&str] = &[
     "class C {\n    final int x;\n}\n",
 ];
 
+fn is_misread(alloc: Global, bytes: &[u8]) -> Result<bool, AllocError> {
+    Ok(printed_again(alloc, bytes)?.is_none())
+}
+
 #[test]
 fn other_texts_are_misread(rt: HostRuntime) -> Result<(), Fail> {
     for text in NO_TEXTS {
-        let again = printed_again(rt.alloc(), text.as_bytes())?;
-        assert!(rt; again.is_none(), "{text}");
+        assert!(rt; is_misread(rt.alloc(), text.as_bytes())?, "{text}");
     }
     Ok(())
 }
@@ -31,30 +36,54 @@ fn joined(alloc: Global, front: &[u8], middle: &[u8], back: &[u8]) -> Result<Vec
     Ok(bytes)
 }
 
-fn is_misread(alloc: Global, bytes: Vec<u8>) -> Result<bool, AllocError> {
-    Ok(printed_again(alloc, bytes.as_slice())?.is_none())
+/// Whether the text is misread with these bytes in place of those from one place to before another.
+fn is_misread_with(
+    alloc: Global,
+    text: &[u8],
+    from: usize,
+    to: usize,
+    bytes: &[u8],
+) -> Result<bool, AllocError> {
+    let front = text.get(..from).unwrap_or(&[]);
+    let back = text.get(to..).unwrap_or(&[]);
+    let other = joined(alloc, front, bytes, back)?;
+    is_misread(alloc, other.as_slice())
 }
 
-// No text has a `#`. Without one byte the text is that of another unit in twelve places: without a letter of
-// an `int`, of which there are three, or the blank before the first, a class is named; without the `p` of an
-// operand it is a number.
+// No text has a `#`.
 #[test]
-fn a_byte_added_changed_or_removed_is_misread(rt: HostRuntime) -> Result<(), Fail> {
-    let alloc = rt.alloc();
+fn a_byte_added_or_changed_is_misread(rt: HostRuntime) -> Result<(), Fail> {
     let text = DIFFERENCE.as_bytes();
-    let mut others = 0u32;
-    for at in 0..text.len() {
-        let front = &text[..at];
-        let behind = &text[at + 1..];
-        let added = joined(alloc, front, b"#", &text[at..])?;
-        assert!(rt; is_misread(alloc, added)?, "added at {at}");
-        let changed = joined(alloc, front, b"#", behind)?;
-        assert!(rt; is_misread(alloc, changed)?, "changed at {at}");
-        let removed = joined(alloc, front, b"", behind)?;
-        if !is_misread(alloc, removed)? {
-            others = others.saturating_add(1);
+    for (at, _) in text.iter().enumerate() {
+        let behind = at.saturating_add(1);
+        assert!(rt;
+            is_misread_with(rt.alloc(), text, at, at, b"#")?,
+            "added at {at}"
+        );
+        assert!(rt;
+            is_misread_with(rt.alloc(), text, at, behind, b"#")?,
+            "changed at {at}"
+        );
+    }
+    Ok(())
+}
+
+/// In how many places the text is that of a unit where the byte there is removed.
+fn texts_without_a_byte(alloc: Global, text: &[u8]) -> Result<u32, AllocError> {
+    let mut count = 0u32;
+    for (at, _) in text.iter().enumerate() {
+        if !is_misread_with(alloc, text, at, at.saturating_add(1), b"")? {
+            count = count.saturating_add(1);
         }
     }
+    Ok(count)
+}
+
+// Without one byte the text is that of another unit in twelve places: without a letter of an `int`, of which
+// there are three, or the blank before the first, a class is named; without the `p` of an operand it is a number.
+#[test]
+fn without_a_byte_it_is_mostly_misread(rt: HostRuntime) -> Result<(), Fail> {
+    let others = texts_without_a_byte(rt.alloc(), DIFFERENCE.as_bytes())?;
     assert_eq!(rt; others, 12);
     Ok(())
 }
@@ -64,12 +93,21 @@ const OBJECT: [u16; 16] = [
     106, 97, 118, 97, 47, 108, 97, 110, 103, 47, 79, 98, 106, 101, 99, 116,
 ];
 
+fn object(alloc: Global) -> Result<ClassName, AllocError> {
+    Ok(ClassName::new(Units::from_slice(alloc, OBJECT.as_slice())?))
+}
+
+fn with_superclass(mut unit: Unit, name: ClassName) -> Unit {
+    unit.superclass = Some(name);
+    unit
+}
+
 #[test]
 fn refuses_object_as_a_superclass(rt: HostRuntime) -> Result<(), Fail> {
-    let alloc = rt.alloc();
-    let mut unit = read_unit(alloc, FINAL_CLASS.as_bytes())?;
+    let object = object(rt.alloc())?;
+    let unit = read_unit(rt.alloc(), FINAL_CLASS.as_bytes())?;
     assert!(rt; is_well_formed(&unit));
-    unit.superclass = Some(ClassName::new(Units::from_slice(alloc, OBJECT.as_slice())?));
-    assert!(rt; !is_well_formed(&unit));
+    let below_object = with_superclass(unit, object);
+    assert!(rt; !is_well_formed(&below_object));
     Ok(())
 }

@@ -18,7 +18,7 @@ use std::alloc::Global;
 const MAGIC: u32 = 0xcafe_babe;
 
 /// What may be wrong with a class file.
-#[derive(Clone, Copy, Debug, PartialEq, Eq)]
+#[derive(Clone, Copy, PartialEq, Eq)]
 pub enum BrokenKind {
     Short,
     Magic,
@@ -33,7 +33,7 @@ pub enum BrokenKind {
 }
 
 /// An entry of the constant pool; Skip stands at an index without one.
-#[derive(Debug, Drop)]
+#[derive(Drop)]
 pub enum Entry {
     Skip,
     Utf8(Units),
@@ -41,14 +41,14 @@ pub enum Entry {
 }
 
 /// An attribute: the index of its name, and its content.
-#[derive(Debug, Drop)]
+#[derive(Drop)]
 pub struct Attribute {
     pub name: u16,
     pub content: Items<u8>,
 }
 
 /// A field or a method: indices of its name and its descriptor.
-#[derive(Debug, Drop)]
+#[derive(Drop)]
 pub struct RawMember {
     pub flags: u16,
     pub name: u16,
@@ -57,7 +57,7 @@ pub struct RawMember {
 }
 
 /// A class file as it is laid out, with indices into its pool.
-#[derive(Debug, Drop)]
+#[derive(Drop)]
 pub struct RawFile {
     pub minor: u16,
     pub major: u16,
@@ -72,7 +72,7 @@ pub struct RawFile {
 }
 
 /// The lists of a class file, which stand at its end.
-#[derive(Debug, Drop)]
+#[derive(Drop)]
 struct Lists {
     interfaces: Items<u16>,
     fields: Items<RawMember>,

@@ -1,16 +1,16 @@
 //! The class of the first form that a class file describes.
 
-ghost use Rattle.std.specs.Prelude.{◌≡◌, ◌⊎◌, ◌↔◌, ℕ, List, IsTrue, IfOk, IfSome, IfNone};
+ghost use Rattle.std.specs.Prelude.{◌≡◌, map, ◌⊎◌, ◌↔◌, ℕ, List, IsTrue, IfOk, IfSome, IfNone};
 ghost use Rattle.dj_class.specs.ResolvedClass as spec;
-ghost use Rattle.dj_class.specs.FirstForm.{view_class};
-ghost use Rattle.dj_class.specs.FirstParts.{HasHead, IsFirstClass};
+ghost use Rattle.dj_class.specs.FirstForm.{view_class, view_method};
+ghost use Rattle.dj_class.specs.FirstParts.{HasHead, IsFirstClass, class_with};
 
-use crate::class::ClassFile;
 use crate::class::methods::methods_of;
 use crate::class::names::is_class_name;
 use crate::class::pool::{are_named, class_at};
 use crate::class::raw::RawFile;
 use crate::class::sound::is_sound_pool;
+use crate::class::{ClassFile, Method};
 use dj_names::{ClassName, Items, Units, is_sayable, is_word};
 use std::alloc::{AllocError, Global};
 
@@ -46,12 +46,15 @@ fn head_of(raw: &RawFile) -> Option<(&Units, &Units)>
     Some((name, superclass))
 }
 
-/// The class of the first form that the file describes.
-pub fn class_of(alloc: Global, raw: RawFile) -> Result<Option<ClassFile>, AllocError>
-    ensures some { IfOk result (λ found. IfSome found (λ class. IsFirstClass raw (view_class class))) }
-    ensures none { IfOk result (λ found. IfNone found ((class : spec.ClassOf) → ¬ IsFirstClass raw class)) }
+/// The class's name, its superclass's, and its methods.
+type FirstParts = (ClassName, ClassName, Items<Method>);
+
+/// What a class of the first form has that isn't kept as the file has it.
+fn parts_of(alloc: Global, raw: &RawFile) -> Result<Option<FirstParts>, AllocError>
+    ensures some { IfOk result (λ found. IfSome found (λ parts. IsFirstClass raw.now (class_with raw.now parts.0 parts.1 (map view_method parts.2)))) }
+    ensures none { IfOk result (λ found. IfNone found ((class : spec.ClassOf) → ¬ IsFirstClass raw.now class)) }
 {
-    let Some((name, superclass)) = head_of(&raw) else {
+    let Some((name, superclass)) = head_of(raw) else {
         return Ok(None);
     };
     if !is_sound_pool(alloc, raw.pool.as_slice())? {
@@ -60,7 +63,18 @@ pub fn class_of(alloc: Global, raw: RawFile) -> Result<Option<ClassFile>, AllocE
     let this_class = ClassName::new(name.copy(alloc)?);
     let super_class = ClassName::new(superclass.copy(alloc)?);
     match methods_of(alloc, raw.pool.as_slice(), raw.methods.as_slice())? {
-        Some(methods) => Ok(Some(ClassFile {
+        Some(methods) => Ok(Some((this_class, super_class, methods))),
+        None => Ok(None),
+    }
+}
+
+/// The class of the first form that the file describes.
+pub fn class_of(alloc: Global, raw: RawFile) -> Result<Option<ClassFile>, AllocError>
+    ensures some { IfOk result (λ found. IfSome found (λ class. IsFirstClass raw (view_class class))) }
+    ensures none { IfOk result (λ found. IfNone found ((class : spec.ClassOf) → ¬ IsFirstClass raw class)) }
+{
+    match parts_of(alloc, &raw)? {
+        Some((this_class, super_class, methods)) => Ok(Some(ClassFile {
             minor: raw.minor,
             major: raw.major,
             pool: raw.pool,

@@ -11,7 +11,7 @@ use dj_names::{ClassName, Units};
 use std::alloc::AllocError;
 
 /// How a unit writes the names of classes: each in full.
-#[derive(Debug, Drop)]
+#[derive(Drop)]
 pub struct Names {
     /// The simple name of the unit's own class, which its constructors have.
     pub own: Units,

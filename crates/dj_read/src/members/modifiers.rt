@@ -3,7 +3,7 @@
 ghost use Rattle.std.specs.Prelude.{◌≡◌};
 ghost use Rattle.dj_read.specs.Members.{modifier_of, read_modifiers};
 
-use crate::words::Reader;
+use crate::words::{Reader, is_word};
 
 /// The bits of the modifiers that come first, behind which the reader goes on.
 pub fn read_modifiers(reader: &mut Reader) -> u16
@@ -21,27 +21,27 @@ pub fn read_modifiers(reader: &mut Reader) -> u16
 fn modifier_of(word: &[u8]) -> Option<u16>
     ensures bit { result ≡ modifier_of word.now }
 {
-    if word == b"public".as_slice() {
+    if is_word(word, b"public") {
         Some(0x0001)
-    } else if word == b"protected".as_slice() {
+    } else if is_word(word, b"protected") {
         Some(0x0004)
-    } else if word == b"private".as_slice() {
+    } else if is_word(word, b"private") {
         Some(0x0002)
-    } else if word == b"abstract".as_slice() {
+    } else if is_word(word, b"abstract") {
         Some(0x0400)
-    } else if word == b"static".as_slice() {
+    } else if is_word(word, b"static") {
         Some(0x0008)
-    } else if word == b"final".as_slice() {
+    } else if is_word(word, b"final") {
         Some(0x0010)
-    } else if word == b"synchronized".as_slice() {
+    } else if is_word(word, b"synchronized") {
         Some(0x0020)
-    } else if word == b"native".as_slice() {
+    } else if is_word(word, b"native") {
         Some(0x0100)
-    } else if word == b"transient".as_slice() {
+    } else if is_word(word, b"transient") {
         Some(0x0080)
-    } else if word == b"volatile".as_slice() {
+    } else if is_word(word, b"volatile") {
         Some(0x0040)
-    } else if word == b"default".as_slice() {
+    } else if is_word(word, b"default") {
         Some(0)
     } else {
         None

@@ -1,5 +1,5 @@
 use Rattle.std.proofs.Common.{◌≡◌, ◌<◌, ◌⊎◌, length, map, take, arith, All}
-use Rattle.std.proofs.lemmas.List.{map_push, flat_map_more}
+use Rattle.std.proofs.lemmas.List.{map_push}
 use Rattle.dj_class.specs.FirstForm.{view_class, view_method}
 use Rattle.dj_syntax.specs.Trees as trees
 use Rattle.dj_syntax.specs.Trees.{view_exp}

@@ -11,23 +11,23 @@ use Rattle.dj_cli.proofs.pieces.piece_of_class.Goals as goal
 pub judge_methods-requires : goal.judge_methods-requires
 judge_methods-requires c = record { flags = c.requires.first_form.1.method_flags }
 
-pub file_line-requires : goal.file_line-requires
-file_line-requires c = record { ascii = ascii_name c.args.class.now.this_class c.requires.first_form.1.name }
+pub piece_of_unit-requires-clause-ascii : goal.piece_of_unit-requires-clause-ascii
+piece_of_unit-requires-clause-ascii c = ascii_name c.args.class.now.this_class c.requires.first_form.1.name
 
-pub unit_bytes-requires : goal.unit_bytes-requires
-unit_bytes-requires c =
+pub piece_of_unit-requires-clause-printable : goal.piece_of_unit-requires-clause-printable
+piece_of_unit-requires-clause-printable c =
     let class = view_class c.args.class.now in
     let unit = view_unit c.in_ok-unit.unit in
-    let texts = map trees.view_method c.in_ok-judgement.judgement.texts in
-    let lines = lines_bytes class.this_class c.in_ok-judgement.judgement.lines.items in
+    let texts = map trees.view_method c.in_ok-texts.field-0.texts in
+    let lines = lines_bytes class.this_class c.in_ok-texts.field-0.lines.items in
     let form = c.requires.first_form in
-    record { printable = ascii_from_well_formed unit (well_formed form.0 class texts lines unit form.1 c.in_ok-judgement.ensures.judged c.in_ok-unit.ensures.text c.in_ok-unit.ensures.simple) }
+    ascii_from_well_formed unit (well_formed form.0 class texts lines unit form.1 c.in_ok-texts.ensures.judged c.in_ok-unit.ensures.text c.in_ok-unit.ensures.simple)
 
 pub returns : goal.returns
 returns c =
     let class = view_class c.args.class.now in
     let unit = view_unit c.in_ok-unit.unit in
-    let texts = map trees.view_method c.in_ok-judgement.judgement.texts in
-    let lines = lines_bytes class.this_class c.in_ok-judgement.judgement.lines.items in
+    let texts = map trees.view_method c.in_ok-texts.field-0.texts in
+    let lines = lines_bytes class.this_class c.in_ok-texts.field-0.lines.items in
     let form = c.requires.first_form in
-    record { printed = rw (c.in_ok-file_line.ensures.line, c.in_ok-unit_bytes.ensures.text) (prints_class form.0 class texts lines unit form.1 c.in_ok-judgement.ensures.judged c.in_ok-unit.ensures.text c.in_ok-unit.ensures.simple) }
+    record { printed = rw c.in_ok-piece.ensures.piece (prints_class form.0 class texts lines unit form.1 c.in_ok-texts.ensures.judged c.in_ok-unit.ensures.text c.in_ok-unit.ensures.simple) }

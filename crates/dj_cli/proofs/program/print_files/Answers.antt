@@ -1,4 +1,4 @@
-use Rattle.std.proofs.Common.{◌≡◌, length, map, refl, sym, ap, ◌∙◌, inr}
+use Rattle.std.proofs.Common.{◌≡◌, length, refl, sym, ap, ◌∙◌, inr}
 use Rattle.std.proofs.lemmas.List.{length-map}
 use Rattle.dj_cli.specs.declared.status.Status.TheVariants.{ReadFault, TooMuch}
 use Rattle.dj_cli.specs.Report.{Read, Much}

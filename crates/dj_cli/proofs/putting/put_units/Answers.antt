@@ -1,4 +1,3 @@
-use Rattle.std.proofs.Common.{length, min}
 use Rattle.std.proofs.lemmas.Result.{err_from_is_err_and}
 use Rattle.dj_cli.proofs.ShownLemmas.{put-more, put-stop}
 use Rattle.dj_cli.proofs.putting.put_units.Goals as goal

@@ -1,4 +1,4 @@
-use Rattle.std.proofs.Common.{◌==◌, length, sym, ap, ◌∙◌}
+use Rattle.std.proofs.Common.{◌==◌, length, take, refl, sym, ap, ◌∙◌}
 use Rattle.dj_cli.specs.Pieces.{piece_of}
 use Rattle.dj_cli.proofs.TellingLemmas.{has-line}
 use Rattle.dj_cli.proofs.telling.tell_class.Goals as goal
@@ -13,4 +13,21 @@ returns-clause-told g c =
       text_taken = c.in_default.ensures.puts.ok;
       report_taken = rw c.as_slice.ensures.value at c.in_default-put_lines.ensures.puts.ok;
       refused_is = has-line class c.in_ok-piece.piece.lines.items c.is_empty.result empty;
+    }
+
+pub returns-in-Err-clause-told : goal.returns-in-Err-clause-told
+returns-in-Err-clause-told g c = tt
+
+pub returns-in-Err-put_lines-clause-stopped : goal.returns-in-Err-put_lines-clause-stopped
+returns-in-Err-put_lines-clause-stopped g c =
+    let piece = piece_of c.args.class.now.this_class c.in_ok-piece.piece in
+    let cut = rw c.as_slice.ensures.value at c.in-Err-put_lines.ensures.puts.prefix in
+    record {
+      piece = piece;
+      is = c.in_ok-piece.ensures.printed;
+      text = piece.text;
+      lines = take cut.0 piece.lines;
+      front = (cut.0, refl, refl);
+      text_taken = c.in_default.ensures.puts.ok;
+      report_taken = cut.1;
     }

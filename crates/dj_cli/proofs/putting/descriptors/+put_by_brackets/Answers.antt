@@ -1,4 +1,4 @@
-use Rattle.std.proofs.Common.{◌≡◌, codes, ◌++◌, sym, ap, ◌∙◌}
+use Rattle.std.proofs.Common.{◌≡◌, sym, ap, ◌∙◌}
 use Rattle.dj_names.specs.Types.{Array, view_type}
 use Rattle.dj_names.specs.Descriptors.{spell_type}
 use Rattle.dj_names.specs.Shown.{show_units}

@@ -1,4 +1,3 @@
-use Rattle.std.proofs.Common.{◌≡◌, replicate, take, refl, ap, ◌∙◌}
 use Rattle.std.proofs.lemmas.List.{take-replicate}
 use Rattle.dj_outer.proofs.PutsLemmas.{puts-as}
 use Rattle.dj_cli.proofs.putting.descriptors.put_brackets.Goals as goal

@@ -1,5 +1,4 @@
 use Rattle.std.proofs.Common.{codes}
-use Rattle.dj_names.specs.Shown.{show_units}
 use Rattle.std.proofs.lemmas.Result.{err_from_is_err_and}
 use Rattle.dj_outer.proofs.PutsLemmas.{puts-as, puts-stop, puts-then}
 use Rattle.dj_cli.proofs.ShownLemmas.{show-class}

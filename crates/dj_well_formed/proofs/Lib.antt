@@ -1,0 +1,4 @@
+pub mod HelperNames
+pub mod ListTests
+pub mod SameLists
+pub mod JoinedNames

@@ -1,0 +1,1 @@
+-- The public contract rests on `Trees` and `WellFormed` of `dj_syntax`; there is no definition here.

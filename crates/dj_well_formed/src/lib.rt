@@ -1,0 +1,12 @@
+//! Which units are well formed, so that the text of each is that of no other, as a test that takes no memory.
+//! It stands on `dj_syntax` for the trees and the definition, and on `dj_names` for names and types.
+//! The layer above uses `is_well_formed`, whose clause `exact` says that it decides `IsWellFormed`.
+#![tactic(auto)]
+
+mod members;
+mod names;
+mod same;
+mod trees;
+mod unit;
+
+pub use unit::is_well_formed;
