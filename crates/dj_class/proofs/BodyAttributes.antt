@@ -12,12 +12,12 @@ use Rattle.dj_layout.specs.Parts.{times}
 use Rattle.dj_layout.proofs.Loops.{times_more}
 use Rattle.dj_layout.proofs.Laws.{unique, whole_spells, halts_is_no_spelling}
 use Rattle.dj_names.specs.Headers.{Name}
-use Rattle.dj_class.specs.declared.class.raw.BrokenKind.{BrokenKind}
-use Rattle.dj_class.specs.declared.class.raw.Attribute.{Attribute}
-use Rattle.dj_class.specs.declared.file.entry.Entry.{Entry}
-use Rattle.dj_class.specs.ClassFile.{attribute}
+use Rattle.dj_class.specs.declared.fault.BrokenKind.{BrokenKind}
+use Rattle.dj_class.specs.declared.raw.Attribute.{Attribute}
+use Rattle.dj_class.specs.declared.entry.Entry.{Entry}
+use Rattle.dj_class.specs.SharedParts.{attribute}
 use Rattle.dj_class.specs.PoolFormat.{text_at}
-use Rattle.dj_class.specs.FileFormat.{named, contents_of, class_indices, LeadsTo, IsExceptions, lawful_in_method}
+use Rattle.dj_class.specs.FileFormat.{named, contents, class_indices, LeadsTo, IsExceptions, lawful_in_method}
 use Rattle.dj_class.specs.Described.{IsThrown}
 use Rattle.dj_class.specs.FileParts.{HasCode, HasExceptions, HasFound, HasNoCode}
 use Rattle.dj_class.proofs.FileIsExact.{exact-classes}
@@ -38,19 +38,19 @@ faulty_exceptions pool content end why fault is halts h =
 
 -- ---- an attribute
 
-same_code : (pool : List Entry) (before after : List Attribute) (code : Option (List ℕ)) → contents_of pool (codes "Code") after ≡ contents_of pool (codes "Code") before → HasCode pool before code → HasCode pool after code
+same_code : (pool : List Entry) (before after : List Attribute) (code : Option (List ℕ)) → contents pool (codes "Code") after ≡ contents pool (codes "Code") before → HasCode pool before code → HasCode pool after code
 same_code pool before after code same has = same ∙ has
 
-same_exceptions : (pool : List Entry) (before after : List Attribute) (thrown : Option (List Name)) → contents_of pool (codes "Exceptions") after ≡ contents_of pool (codes "Exceptions") before
+same_exceptions : (pool : List Entry) (before after : List Attribute) (thrown : Option (List Name)) → contents pool (codes "Exceptions") after ≡ contents pool (codes "Exceptions") before
     → HasExceptions pool before thrown → HasExceptions pool after thrown
 same_exceptions pool before after None same has = same ∙ has
 same_exceptions pool before after (Some thrown) same (content, one, is) = (content, same ∙ one, is)
 
-no_code : (pool : List Entry) (before : List Attribute) (code : Option (Bor (List ℕ))) → false ≡ is_some code → HasCode pool before (option_copied code) → contents_of pool (codes "Code") before ≡ []
+no_code : (pool : List Entry) (before : List Attribute) (code : Option (Bor (List ℕ))) → false ≡ is_some code → HasCode pool before (option_copied code) → contents pool (codes "Code") before ≡ []
 no_code pool before None none has = has
 no_code pool before (Some code) none has = absurd cc
 
-no_exceptions : (pool : List Entry) (before : List Attribute) (thrown : Option (List Name)) → false ≡ is_some thrown → HasExceptions pool before thrown → contents_of pool (codes "Exceptions") before ≡ []
+no_exceptions : (pool : List Entry) (before : List Attribute) (thrown : Option (List Name)) → false ≡ is_some thrown → HasExceptions pool before thrown → contents pool (codes "Exceptions") before ≡ []
 no_exceptions pool before None none has = has
 no_exceptions pool before (Some thrown) none has = absurd cc
 
@@ -110,8 +110,8 @@ some_more (y ∷ xs) x e = absurd cc
 pub no_code_more : (pool : List Entry) (i : ℕ) (bytes rest after : List ℕ) (this : Attribute) (none now : Bool) → SpellsSome (times i attribute) (HasNoCode pool) bytes none rest → Spells attribute rest this after
     → IsTrue now ↔ (IsTrue none × (text_at pool this.name ≡ Some (codes "Code") → ⊥)) → SpellsSome (times (i + 1) attribute) (HasNoCode pool) bytes now after
 no_code_more pool i bytes rest after this none now so_far one tells =
-    let other : contents_of pool (codes "Code") (so_far.value ++ this ∷ []) ≡ [] → text_at pool this.name ≡ Some (codes "Code") → ⊥ =
-    λ e is. some_more (contents_of pool (codes "Code") so_far.value) this.content (sym (contents_named pool (codes "Code") so_far.value this is) ∙ e) in
+    let other : contents pool (codes "Code") (so_far.value ++ this ∷ []) ≡ [] → text_at pool this.name ≡ Some (codes "Code") → ⊥ =
+    λ e is. some_more (contents pool (codes "Code") so_far.value) this.content (sym (contents_named pool (codes "Code") so_far.value this is) ∙ e) in
     record {
       value = so_far.value ++ this ∷ [];
       spells = times_more attribute i bytes rest after so_far.value this so_far.spells one;

@@ -3,9 +3,9 @@ use Rattle.std.proofs.Common.{◌≡◌, List, [], ◌∷◌, ◌++◌, Some, No
 use Rattle.std.specs.Prelude.{codes}
 use Rattle.std.specs.Int.{w64, cast_signed}
 use Rattle.dj_layout.specs.Parts.{number}
-use Rattle.dj_class.specs.declared.file.entry.Entry.{Entry}
-use Rattle.dj_class.specs.declared.file.entry.Entry.TheVariants as entry
-use Rattle.dj_class.specs.declared.file.entry.Ask.TheVariants as ask
+use Rattle.dj_class.specs.declared.entry.Entry.{Entry}
+use Rattle.dj_class.specs.declared.entry.Entry.TheVariants as entry
+use Rattle.dj_class.specs.declared.entry.Ask.TheVariants as ask
 use Rattle.dj_class.specs.PoolFormat.{pool, descriptor_behind, class_at, LeadsRight, IsMethodText, HasTag}
 use Rattle.dj_class.specs.FileFormat.{Raw, file}
 

@@ -5,18 +5,17 @@ use Rattle.dj_layout.specs.Layout.{Layout}
 use Rattle.dj_layout.specs.Exact.{IsExact}
 use Rattle.dj_layout.proofs.PartsAreExact.{exact-number, exact-exactly, exact-headed, exact-tested, exact-viewed}
 use Rattle.dj_layout.proofs.PassesAreExact.{exact-asked, exact-again, exact-sequence}
-use Rattle.dj_class.specs.declared.class.raw.BrokenKind.{BrokenKind}
-use Rattle.dj_class.specs.declared.class.raw.BrokenKind.TheVariants as kind
-use Rattle.dj_class.specs.declared.class.raw.Attribute.{Attribute}
-use Rattle.dj_class.specs.declared.class.raw.RawMember.{RawMember}
-use Rattle.dj_class.specs.declared.file.entry.Entry.{Entry}
-use Rattle.dj_class.specs.declared.file.entry.Entry.TheVariants as entry
-use Rattle.dj_class.specs.declared.file.entry.Ask.{Ask}
-use Rattle.dj_class.specs.declared.file.front.Front.{Front}
-use Rattle.dj_class.specs.ClassFile.{u2, attribute, member}
+use Rattle.dj_class.specs.declared.fault.BrokenKind.{BrokenKind}
+use Rattle.dj_class.specs.declared.fault.BrokenKind.TheVariants as kind
+use Rattle.dj_class.specs.declared.raw.Attribute.{Attribute}
+use Rattle.dj_class.specs.SharedParts.{RawMember, u2, attribute, member}
+use Rattle.dj_class.specs.declared.entry.Entry.{Entry}
+use Rattle.dj_class.specs.declared.entry.Entry.TheVariants as entry
+use Rattle.dj_class.specs.declared.entry.Ask.{Ask}
+use Rattle.dj_class.specs.declared.front.Front.{Front}
 use Rattle.dj_class.specs.PoolFormat.{Content, Characters, One, Two, asked_number, behind, content_of, tag_of, first_of, second_of, units_of, text, tag_within, entry_within, spell_entry, plain_entries, entries, places_of, entry_with, isnt_skip, spread, pool}
 use Rattle.dj_class.specs.FileFormat.{Own, Listed, Rest, Raw, major, front, plain_own, plain_listed, rest_of, plain_rest, file_of, file, named, counted_in_turn, class_indices, field, method, method_attributes, lawful_own, lawful_listed, lawful_rest, sound}
-use Rattle.dj_class.proofs.ClassIsExact.{exact-u2, exact-counted, exact-attribute, exact-member, exact-magic}
+use Rattle.dj_class.proofs.SharedAreExact.{exact-u2, exact-counted, exact-attribute, exact-member, exact-magic}
 use Rattle.dj_class.proofs.Utf8Exact.{exact-utf8}
 
 -- ---- the pool

@@ -5,18 +5,17 @@ use Rattle.std.proofs.lemmas.List.Elements.{recursion_from_All, All-from_recursi
 use Rattle.dj_layout.specs.Layout.{Layout, SpellsSome, SpellsAny}
 use Rattle.dj_layout.specs.Passes.{asked, IsSequence}
 use Rattle.dj_layout.proofs.Laws.{unique}
-use Rattle.dj_class.specs.declared.class.raw.BrokenKind.{BrokenKind}
-use Rattle.dj_class.specs.declared.class.raw.BrokenKind.TheVariants as kind
-use Rattle.dj_class.specs.declared.class.raw.Attribute.{Attribute}
-use Rattle.dj_class.specs.declared.class.raw.RawMember.{RawMember}
-use Rattle.dj_class.specs.declared.file.entry.Entry.{Entry}
-use Rattle.dj_class.specs.declared.file.entry.Ask.{Ask}
-use Rattle.dj_class.specs.declared.file.entry.Ask.TheVariants as ask
-use Rattle.dj_class.specs.declared.file.front.Front.{Front}
-use Rattle.dj_class.specs.ClassFile.{u2, counted, attribute, member}
+use Rattle.dj_class.specs.declared.fault.BrokenKind.{BrokenKind}
+use Rattle.dj_class.specs.declared.fault.BrokenKind.TheVariants as kind
+use Rattle.dj_class.specs.declared.raw.Attribute.{Attribute}
+use Rattle.dj_class.specs.SharedParts.{RawMember, u2, counted, attribute, member}
+use Rattle.dj_class.specs.declared.entry.Entry.{Entry}
+use Rattle.dj_class.specs.declared.entry.Ask.{Ask}
+use Rattle.dj_class.specs.declared.entry.Ask.TheVariants as ask
+use Rattle.dj_class.specs.declared.front.Front.{Front}
 use Rattle.dj_class.specs.PoolFormat.{Content, Characters, One, Two, IsFound, LeadsRight, behind, content_of, tag_of, entry_within, entries, places_of, isnt_skip}
 use Rattle.dj_class.specs.FileFormat.{Own, Listed, Rest, Raw, front, plain_own, plain_listed, plain_rest, file, named, counted_in_turn, lawful_in_field, lawful_in_method, HasBodyAs, method_attributes, field, method, class_indices, IsClassIndex, lawful_own, lawful_listed, lawful_rest, sound}
-use Rattle.dj_class.proofs.ClassIsExact.{exact-attributes}
+use Rattle.dj_class.proofs.SharedAreExact.{exact-attributes}
 
 -- ---- the pool
 

@@ -11,15 +11,13 @@ use Rattle.dj_names.specs.Headers.{Name}
 use Rattle.dj_names.specs.Types.{JType, Descriptor, Field}
 use Rattle.dj_names.specs.Descriptors.{SpellsDescriptor}
 use Rattle.dj_names.proofs.DescriptorLemmas.{one_spelled}
-use Rattle.dj_class.specs.declared.class.raw.BrokenKind.{BrokenKind}
-use Rattle.dj_class.specs.declared.class.raw.BrokenKind.TheVariants as kind
-use Rattle.dj_class.specs.declared.class.raw.RawMember.{RawMember}
-use Rattle.dj_class.specs.declared.file.entry.Entry.{Entry}
-use Rattle.dj_class.specs.ClassFile.{u2, counted}
-use Rattle.dj_class.specs.ResolvedClass.{FieldOf, MethodOf}
+use Rattle.dj_class.specs.declared.fault.BrokenKind.{BrokenKind}
+use Rattle.dj_class.specs.declared.fault.BrokenKind.TheVariants as kind
+use Rattle.dj_class.specs.SharedParts.{RawMember, u2, counted}
+use Rattle.dj_class.specs.declared.entry.Entry.{Entry}
+use Rattle.dj_class.specs.Described.{FieldOf, MethodOf, ClassOf, IsConstant, IsThrown, DescribesField, DescribesMethod, DescribesClass, SpellsClass, HasFault}
 use Rattle.dj_class.specs.FileFormat.{Raw, LeadsTo, file, sound}
-use Rattle.dj_class.specs.Described.{WholeClass, IsConstant, IsThrown, DescribesField, DescribesAMethod, DescribesClass, SpellsFile, HasFault}
-use Rattle.dj_class.proofs.ClassIsExact.{exact-u2, exact-counted}
+use Rattle.dj_class.proofs.SharedAreExact.{exact-u2, exact-counted}
 use Rattle.dj_class.proofs.FileIsExact.{exact-file, exact-sound}
 
 -- ---- one value
@@ -77,7 +75,7 @@ one_field pool member a b first second =
 method_with : ℕ → List ℕ → Descriptor → List Name → Option (List ℕ) → MethodOf
 method_with flags name descriptor thrown code = record { flags = flags; name = name; descriptor = descriptor; thrown = thrown; code = code }
 
-one_method : (pool : List Entry) (member : RawMember) (a b : MethodOf) → DescribesAMethod pool member a → DescribesAMethod pool member b → a ≡ b
+one_method : (pool : List Entry) (member : RawMember) (a b : MethodOf) → DescribesMethod pool member a → DescribesMethod pool member b → a ≡ b
 unfolding method_with
 one_method pool member a b first second =
     let flags : a.flags ≡ b.flags = first.flags ∙ sym second.flags in
@@ -88,7 +86,7 @@ one_method pool member a b first second =
     let same : method_with a.flags a.name a.descriptor a.thrown a.code ≡ method_with b.flags b.name b.descriptor b.thrown b.code = rw (flags, name, descriptor, thrown, code) refl in
     same
 
-class_with : ℕ → ℕ → List Entry → ℕ → Name → Option Name → List Name → List FieldOf → List MethodOf → WholeClass
+class_with : ℕ → ℕ → List Entry → ℕ → Name → Option Name → List Name → List FieldOf → List MethodOf → ClassOf
 class_with minor major pool flags this_class super_class interfaces fields methods = record {
   minor = minor;
   major = major;
@@ -101,7 +99,7 @@ class_with minor major pool flags this_class super_class interfaces fields metho
   methods = methods;
 }
 
-one_described : (raw : Raw) (a b : WholeClass) → DescribesClass raw a → DescribesClass raw b → a ≡ b
+one_described : (raw : Raw) (a b : ClassOf) → DescribesClass raw a → DescribesClass raw b → a ≡ b
 unfolding class_with
 one_described raw a b x y =
     let minor : a.minor ≡ b.minor = x.minor ∙ sym y.minor in
@@ -112,13 +110,13 @@ one_described raw a b x y =
     let super_class : a.super_class ≡ b.super_class = x.super_class ∙ sym y.super_class in
     let interfaces = one_list (LeadsTo raw.front.pool) (one_name raw.front.pool) raw.rest.listed.interfaces a.interfaces b.interfaces x.interfaces y.interfaces in
     let fields = one_list (DescribesField raw.front.pool) (one_field raw.front.pool) raw.rest.listed.fields a.fields b.fields x.fields y.fields in
-    let methods = one_list (DescribesAMethod raw.front.pool) (one_method raw.front.pool) raw.rest.listed.methods a.methods b.methods x.methods y.methods in
+    let methods = one_list (DescribesMethod raw.front.pool) (one_method raw.front.pool) raw.rest.listed.methods a.methods b.methods x.methods y.methods in
     let same : class_with a.minor a.major a.pool a.flags a.this_class a.super_class a.interfaces a.fields a.methods ≡ class_with b.minor b.major b.pool b.flags b.this_class b.super_class b.interfaces b.fields b.methods =
     rw (minor, major, pool, flags, this_class, super_class, interfaces, fields, methods) refl in
     same
 
 -- bytes are a class file of one class
-pub one_class : (bytes : List ℕ) (oldest : ℕ) (a b : WholeClass) → SpellsFile bytes oldest a → SpellsFile bytes oldest b → a ≡ b
+pub one_class : (bytes : List ℕ) (oldest : ℕ) (a b : ClassOf) → SpellsClass bytes oldest a → SpellsClass bytes oldest b → a ≡ b
 one_class bytes oldest a b first second =
     let raw = whole_unique (file oldest) (exact-file oldest) bytes second.raw first.raw second.laid_out first.laid_out in
     one_described first.raw a b first.described (subst (λ (r : Raw). DescribesClass r b) raw second.described)
@@ -137,7 +135,7 @@ lawful_is_no_fault bytes oldest raw fault whole fits halts =
     whole_has_no_fault layout (exact-sound oldest raw.front.pool) kind.Trailing bytes raw fault again (inl halts)
 
 -- a class file has no fault
-pub file_has_no_fault : (bytes : List ℕ) (oldest : ℕ) (class : WholeClass) (fault : Fault BrokenKind) → SpellsFile bytes oldest class → HasFault bytes oldest fault → ⊥
+pub file_has_no_fault : (bytes : List ℕ) (oldest : ℕ) (class : ClassOf) (fault : Fault BrokenKind) → SpellsClass bytes oldest class → HasFault bytes oldest fault → ⊥
 file_has_no_fault bytes oldest class fault spells (inl first) = whole_has_no_fault (file oldest) (exact-file oldest) kind.Trailing bytes spells.raw fault spells.laid_out first
 file_has_no_fault bytes oldest class fault spells (inr (raw, whole, halts)) =
     let same = whole_unique (file oldest) (exact-file oldest) bytes raw spells.raw whole spells.laid_out in

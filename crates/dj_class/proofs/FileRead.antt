@@ -5,16 +5,16 @@ use Rattle.dj_layout.specs.declared.fault.Stop.{Stop}
 use Rattle.dj_layout.specs.declared.fault.Stop.TheVariants as stop
 use Rattle.dj_layout.specs.Layout.{SpellsSome, Stops}
 use Rattle.dj_layout.proofs.Laws.{unique, whole_spells}
-use Rattle.dj_class.specs.declared.class.raw.BrokenKind.{BrokenKind}
-use Rattle.dj_class.specs.declared.file.fault.ClassFault.{ClassFault}
-use Rattle.dj_class.specs.declared.file.entry.Entry.{Entry}
-use Rattle.dj_class.specs.declared.file.front.Front.{Front}
-use Rattle.dj_class.specs.declared.file.own.OwnNames.{OwnNames}
+use Rattle.dj_class.specs.declared.fault.BrokenKind.{BrokenKind}
+use Rattle.dj_class.specs.declared.fault.ClassFault.{ClassFault}
+use Rattle.dj_class.specs.declared.entry.Entry.{Entry}
+use Rattle.dj_class.specs.declared.front.Front.{Front}
+use Rattle.dj_class.specs.declared.own.OwnNames.{OwnNames}
 use Rattle.dj_class.specs.FileFormat.{Raw, file, sound}
-use Rattle.dj_class.specs.Described.{WholeClass, SpellsFile, HasFault}
+use Rattle.dj_class.specs.Described.{ClassOf, SpellsClass, HasFault}
 use Rattle.dj_class.specs.FaultOf.{IsFaultOf, shown_place}
 use Rattle.dj_class.specs.FileParts.{HasFront, MembersOf, DescribesRest}
-use Rattle.dj_class.specs.FileViews.{IsBroken, GivesClass, GivesFault}
+use Rattle.dj_class.specs.Views.{IsBroken, GivesClass, GivesFault}
 use Rattle.dj_class.proofs.FileIsExact.{exact-file}
 use Rattle.dj_class.proofs.FileIsFiner.{sound_is_laid_out}
 use Rattle.dj_class.proofs.FileIsUnique.{file_has_no_fault, one_file_fault}
@@ -33,7 +33,7 @@ sound_stop bytes oldest front pool (stop.Fault found) h is halts =
 -- what all passes have read is the class of the bytes
 pub file_read : (bytes : List ℕ) (oldest : ℕ) (front : Front) (pool : List Entry) (own : OwnNames) (members : MembersOf) (rest : List ℕ) → HasFront bytes oldest front → pool ≡ front.pool
     → SpellsSome (sound oldest pool) (λ raw these. DescribesRest pool raw.rest these) bytes (own, members) rest
-    → SpellsFile bytes oldest (record { minor = front.minor; major = front.major; pool = pool; flags = own.flags; this_class = own.this_class; super_class = own.super_class; interfaces = members.interfaces; fields = members.fields; methods = members.methods })
+    → SpellsClass bytes oldest (record { minor = front.minor; major = front.major; pool = pool; flags = own.flags; this_class = own.this_class; super_class = own.super_class; interfaces = members.interfaces; fields = members.fields; methods = members.methods })
 file_read bytes oldest front pool own members rest h is s =
     let same : h.raw ≡ s.value = (unique (file oldest) (exact-file oldest) bytes h.raw s.value [] rest (whole_spells (file oldest) bytes h.raw h.laid_out) (record { fits = sound_is_laid_out oldest pool s.value s.spells.fits; text = s.spells.text })).0 in
     let pool_is = known bytes oldest front pool h is in
@@ -66,7 +66,7 @@ broken_so bytes oldest stop.Memory answer halts is = rw is tt
 broken_so bytes oldest (stop.Fault found) answer halts is = rw is (found, halts, refl, refl)
 
 -- a class is answered where the bytes have one
-pub gives_class : (bytes : List ℕ) (oldest : ℕ) (why : Stop BrokenKind) (answer : ClassFault) → Stops (λ _ _. HasFault bytes oldest) 0 bytes why → IsFaultOf why answer → (class : WholeClass) → SpellsFile bytes oldest class
+pub gives_class : (bytes : List ℕ) (oldest : ℕ) (why : Stop BrokenKind) (answer : ClassFault) → Stops (λ _ _. HasFault bytes oldest) 0 bytes why → IsFaultOf why answer → (class : ClassOf) → SpellsClass bytes oldest class
     → GivesClass (Err answer) class
 gives_class bytes oldest stop.Memory answer halts is class spells = rw is tt
 gives_class bytes oldest (stop.Fault found) answer halts is class spells = absurd (file_has_no_fault bytes oldest class found spells halts)

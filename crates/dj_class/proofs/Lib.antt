@@ -1,15 +1,8 @@
 pub mod Examples
-pub mod ClassLayout
-pub mod ClassIsExact
-pub mod ClassContents
-pub mod ClassNameTests
+pub mod SharedAreExact
+pub mod Pushed
+pub mod NameTests
 pub mod Zips
-pub mod ClassMethods
-pub mod ClassSound
-pub mod ClassDescriptors
-pub mod ClassResolved
-pub mod ClassFirstForm
-pub mod ClassIsUnique
 pub mod Utf8Exact
 pub mod FileIsExact
 pub mod FileIsUnique
@@ -21,6 +14,6 @@ pub mod AttributeContents
 pub mod MemberAttributes
 pub mod BodyAttributes
 pub mod FileIsFiner
-pub mod Members
+pub mod MemberReading
 pub mod ListedParts
 pub mod FileRead

@@ -5,15 +5,14 @@ use Rattle.std.proofs.lemmas.List.Elements.{All-nil}
 use Rattle.dj_layout.specs.Layout.{Layout, Spells, SpellsSome, SpellsAny}
 use Rattle.dj_layout.specs.Parts.{times}
 use Rattle.dj_names.specs.Headers.{Name}
-use Rattle.dj_class.specs.declared.class.raw.BrokenKind.{BrokenKind}
-use Rattle.dj_class.specs.declared.file.entry.Entry.{Entry}
-use Rattle.dj_class.specs.declared.file.front.Front.{Front}
-use Rattle.dj_class.specs.declared.file.own.OwnNames.{OwnNames}
-use Rattle.dj_class.specs.ClassFile.{u2, counted, attribute, member, magic}
-use Rattle.dj_class.specs.ResolvedClass.{FieldOf, MethodOf}
+use Rattle.dj_class.specs.declared.fault.BrokenKind.{BrokenKind}
+use Rattle.dj_class.specs.declared.entry.Entry.{Entry}
+use Rattle.dj_class.specs.declared.front.Front.{Front}
+use Rattle.dj_class.specs.declared.own.OwnNames.{OwnNames}
+use Rattle.dj_class.specs.SharedParts.{u2, counted, attribute, member, magic}
+use Rattle.dj_class.specs.Described.{FieldOf, MethodOf, DescribesField, DescribesMethod}
 use Rattle.dj_class.specs.FileFormat.{LeadsTo, named, field, method, front, class_indices, lawful_own, lawful_listed, lawful_rest, sound}
-use Rattle.dj_class.specs.Described.{DescribesField, DescribesAMethod, DescribesOwn}
-use Rattle.dj_class.specs.FileParts.{MembersOf, DescribesListed, DescribesRest}
+use Rattle.dj_class.specs.FileParts.{MembersOf, DescribesListed, DescribesRest, DescribesOwn}
 use Rattle.dj_class.proofs.RestParts.{four_texts, rest_spelled, file_spelled}
 
 -- no item is read
@@ -21,7 +20,7 @@ pub as_none : {A B : Type 0} (item : Layout BrokenKind A) (Means : A → B → T
 as_none item Means bytes = record { value = []; spells = record { fits = (refl, All-nil item.Fits); text = refl }; means = tt }
 
 pub listed_read : (pool : List Entry) (bytes r s t u : List ℕ) (interfaces : List Name) (fields : List FieldOf) (methods : List MethodOf) → SpellsSome (class_indices pool) (AllZip (LeadsTo pool)) bytes interfaces r
-    → SpellsSome (counted (field pool)) (AllZip (DescribesField pool)) r fields s → SpellsSome (counted (method pool)) (AllZip (DescribesAMethod pool)) s methods t → SpellsAny (counted (named pool)) t u
+    → SpellsSome (counted (field pool)) (AllZip (DescribesField pool)) r fields s → SpellsSome (counted (method pool)) (AllZip (DescribesMethod pool)) s methods t → SpellsAny (counted (named pool)) t u
     → SpellsSome (lawful_listed pool) (DescribesListed pool) bytes (record { interfaces = interfaces; fields = fields; methods = methods }) u
 listed_read pool bytes r s t u interfaces fields methods p q w z = record {
   value = record { interfaces = p.value; fields = q.value; methods = w.value; attributes = z.value };

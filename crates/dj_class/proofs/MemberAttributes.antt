@@ -2,16 +2,16 @@
 use Rattle.std.proofs.Common.{◌≡◌, ℕ, List, [], ◌∷◌, ◌++◌, Option, Some, None, false, is_some, codes, ap, ◌∙◌}
 use Rattle.dj_layout.specs.Layout.{Spells, SpellsSome}
 use Rattle.dj_names.specs.declared.members.Constant.{Constant}
-use Rattle.dj_class.specs.declared.class.raw.Attribute.{Attribute}
-use Rattle.dj_class.specs.declared.file.entry.Entry.{Entry}
+use Rattle.dj_class.specs.declared.raw.Attribute.{Attribute}
+use Rattle.dj_class.specs.declared.entry.Entry.{Entry}
 use Rattle.dj_class.specs.PoolFormat.{text_at}
-use Rattle.dj_class.specs.FileFormat.{named, contents_of, index_of, IsConstantValue, lawful_in_field}
+use Rattle.dj_class.specs.FileFormat.{named, contents, index_of, IsConstantValue, lawful_in_field}
 use Rattle.dj_class.specs.Described.{IsConstant}
 use Rattle.dj_class.specs.FileParts.{HasConstantIndex, constant_at}
 use Rattle.dj_class.proofs.AttributeContents.{contents_named, contents_other}
 
 -- the same contents, the same constant
-same_contents : (pool : List Entry) (before after : List Attribute) (found : Option ℕ) → contents_of pool (codes "ConstantValue") after ≡ contents_of pool (codes "ConstantValue") before
+same_contents : (pool : List Entry) (before after : List Attribute) (found : Option ℕ) → contents pool (codes "ConstantValue") after ≡ contents pool (codes "ConstantValue") before
     → HasConstantIndex pool before found → HasConstantIndex pool after found
 same_contents pool before after None same has = same ∙ has
 same_contents pool before after (Some index) same (content, one, is) = (content, same ∙ one, is)
@@ -25,7 +25,7 @@ field_other pool descriptor bytes rest this found before spells other has = reco
   means = same_contents pool before (before ++ this ∷ []) found (contents_other pool (codes "ConstantValue") before this other) has;
 }
 
-none_before : (pool : List Entry) (before : List Attribute) (found : Option ℕ) → false ≡ is_some found → HasConstantIndex pool before found → contents_of pool (codes "ConstantValue") before ≡ []
+none_before : (pool : List Entry) (before : List Attribute) (found : Option ℕ) → false ≡ is_some found → HasConstantIndex pool before found → contents pool (codes "ConstantValue") before ≡ []
 none_before pool before None none has = has
 none_before pool before (Some index) none has = absurd cc
 
@@ -43,6 +43,6 @@ field_first pool descriptor bytes rest this found index before spells is none in
 
 -- the constant that is found
 pub constant_found : (pool : List Entry) (attributes : List Attribute) (found : Option ℕ) (constant : Option Constant) → HasConstantIndex pool attributes found → constant ≡ constant_at pool found
-    → IsConstant pool (contents_of pool (codes "ConstantValue") attributes) constant
+    → IsConstant pool (contents pool (codes "ConstantValue") attributes) constant
 constant_found pool attributes None constant has is = rw has is
 constant_found pool attributes (Some index) constant (content, one, index_is) is = rw one (is ∙ ap (λ (k : ℕ). constant_at pool (Some k)) index_is)

@@ -9,9 +9,9 @@ use Rattle.std.proofs.lemmas.Grind.{flat_map-append}
 use Rattle.dj_layout.specs.declared.fault.Stop.{Stop}
 use Rattle.dj_layout.specs.Layout.{Layout, Spells, Stops}
 use Rattle.dj_layout.proofs.Sequences.{IsRead, read_none, read_more, read_stop, read_all}
-use Rattle.dj_class.specs.declared.class.raw.BrokenKind.{BrokenKind}
-use Rattle.dj_class.specs.declared.file.entry.Entry.{Entry}
-use Rattle.dj_class.specs.declared.file.entry.Entry.TheVariants as entry
+use Rattle.dj_class.specs.declared.fault.BrokenKind.{BrokenKind}
+use Rattle.dj_class.specs.declared.entry.Entry.{Entry}
+use Rattle.dj_class.specs.declared.entry.Entry.TheVariants as entry
 use Rattle.dj_class.specs.PoolFormat.{tag_of, places, is_tag, spread, isnt_skip, places_of, spell_entry, entry_within, entries}
 use Rattle.dj_class.proofs.FileIsExact.{spelled_alike}
 

@@ -3,8 +3,8 @@ use Rattle.std.proofs.Common.{◌≡◌, ◌↔◌, ℕ, zero, suc, List, [], �
 use Rattle.std.specs.Option.{option_and_then}
 use Rattle.dj_names.specs.declared.descriptor.Descriptor as code_descriptor
 use Rattle.dj_names.specs.ClassNames.{IsClassName}
-use Rattle.dj_class.specs.declared.file.entry.Entry.{Entry}
-use Rattle.dj_class.specs.declared.file.parsed.Parsed.{Parsed}
+use Rattle.dj_class.specs.declared.entry.Entry.{Entry}
+use Rattle.dj_class.specs.declared.parsed.Parsed.{Parsed}
 use Rattle.dj_class.specs.PoolFormat.{text_at}
 use Rattle.dj_class.specs.PoolTable.{IsReadOf, IsTable}
 

@@ -9,7 +9,7 @@ use Rattle.dj_names.specs.Types.{JType, Boolean, Byte, Char, Short, Int, Long, F
 use Rattle.dj_names.specs.Descriptors.{SpellsDescriptor}
 use Rattle.dj_names.proofs.DescriptorLemmas.{one_spelled}
 use Rattle.dj_class.specs.PoolFormat.{IsFieldText, IsMethodText, IsArrayText, HasTag, text_at}
-use Rattle.dj_class.specs.declared.file.entry.Entry.{Entry}
+use Rattle.dj_class.specs.declared.entry.Entry.{Entry}
 use Rattle.dj_class.specs.FileFormat.{IsConstantIndex, constant_tag}
 use Rattle.dj_class.specs.PoolTable.{IsReadOf, is_array_type}
 

@@ -5,14 +5,13 @@ use Rattle.std.proofs.lemmas.List.{append-nil}
 use Rattle.dj_layout.specs.Layout.{Layout, Spells}
 use Rattle.dj_layout.specs.Parts.{run, number}
 use Rattle.dj_layout.specs.Passes.{asked}
-use Rattle.dj_class.specs.declared.class.raw.BrokenKind.{BrokenKind}
-use Rattle.dj_class.specs.declared.class.raw.BrokenKind.TheVariants as kind
-use Rattle.dj_class.specs.declared.class.raw.Attribute.{Attribute}
-use Rattle.dj_class.specs.declared.class.raw.RawMember.{RawMember}
-use Rattle.dj_class.specs.declared.file.entry.Entry.{Entry}
-use Rattle.dj_class.specs.declared.file.front.Front.{Front}
-use Rattle.dj_class.specs.ClassFile.{u2, counted, attribute, member, magic}
-use Rattle.dj_class.specs.FileFormat.{Own, Listed, Rest, plain_own, plain_listed, rest_of, file_of, HasLawfulFlags, IsClassIndex, IsSuperIndex, lawful_own}
+use Rattle.dj_class.specs.declared.fault.BrokenKind.{BrokenKind}
+use Rattle.dj_class.specs.declared.fault.BrokenKind.TheVariants as kind
+use Rattle.dj_class.specs.declared.raw.Attribute.{Attribute}
+use Rattle.dj_class.specs.SharedParts.{RawMember, u2, counted, attribute, member, magic}
+use Rattle.dj_class.specs.declared.entry.Entry.{Entry}
+use Rattle.dj_class.specs.declared.front.Front.{Front}
+use Rattle.dj_class.specs.FileFormat.{Own, Listed, Rest, plain_own, plain_listed, rest_of, file_of, HasClassFlags, IsClassIndex, IsSuperIndex, lawful_own}
 
 -- the bytes of two, three and four parts in a row
 pub two_texts : (bytes r s a b : List ℕ) → bytes ≡ a ++ r → r ≡ b ++ s → bytes ≡ (a ++ (b ++ [])) ++ s
@@ -69,7 +68,7 @@ file_spelled of_front of_rest bytes r s t m front rest p q w =
     let is = the_magic bytes r m p in
     record { fits = (subst (λ (k : ℕ). magic.Fits k) is p.fits, (q.fits, (w.fits, refl))); text = three_texts bytes r s t (magic.spell 3405691582) (of_front.spell front) (of_rest.spell rest) (subst (λ (k : ℕ). bytes ≡ magic.spell k ++ r) is p.text) q.text w.text }
 
-pub lawful_own_spelled : (pool : List Entry) (bytes r s t : List ℕ) (flags this_class super_class : ℕ) → Spells (asked u2 HasLawfulFlags kind.Flags) bytes flags r → Spells (asked u2 (IsClassIndex pool) kind.Index) r this_class s
+pub lawful_own_spelled : (pool : List Entry) (bytes r s t : List ℕ) (flags this_class super_class : ℕ) → Spells (asked u2 HasClassFlags kind.Flags) bytes flags r → Spells (asked u2 (IsClassIndex pool) kind.Index) r this_class s
     → Spells (asked u2 (IsSuperIndex pool flags this_class) kind.Index) s super_class t → Spells (lawful_own pool) bytes (record { flags = flags; this_class = this_class; super_class = super_class }) t
 lawful_own_spelled pool bytes r s t flags this_class super_class p q w =
     record { fits = (p.fits, (q.fits, (w.fits, refl))); text = three_texts bytes r s t (u2.spell flags) (u2.spell this_class) (u2.spell super_class) p.text q.text w.text }

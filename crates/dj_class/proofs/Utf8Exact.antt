@@ -8,8 +8,8 @@ use Rattle.dj_layout.specs.Layout.{fault_of}
 use Rattle.dj_layout.specs.Exact.{IsExact}
 use Rattle.dj_names.specs.Utf8.{IsUnit, AreNoUnits, encode, spell_units}
 use Rattle.dj_names.proofs.Utf8Lemmas.{one_unit, one_list}
-use Rattle.dj_class.specs.declared.class.raw.BrokenKind.{BrokenKind}
-use Rattle.dj_class.specs.declared.class.raw.BrokenKind.TheVariants as kind
+use Rattle.dj_class.specs.declared.fault.BrokenKind.{BrokenKind}
+use Rattle.dj_class.specs.declared.fault.BrokenKind.TheVariants as kind
 use Rattle.dj_class.specs.PoolFormat.{utf8}
 
 -- units that stand where others end in no unit end there too, or before

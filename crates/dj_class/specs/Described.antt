@@ -9,21 +9,33 @@ use Rattle.dj_layout.specs.Whole.{IsWhole}
 use Rattle.dj_names.specs.declared.members.Constant.{Constant}
 use Rattle.dj_names.specs.declared.members.Constant.TheVariants as constant
 use Rattle.dj_names.specs.Headers.{Name}
-use Rattle.dj_names.specs.Types.{Field}
+use Rattle.dj_names.specs.Types.{JType, Descriptor, Field}
 use Rattle.dj_names.specs.Descriptors.{SpellsDescriptor}
-use Rattle.dj_class.specs.declared.class.raw.BrokenKind.{BrokenKind}
-use Rattle.dj_class.specs.declared.class.raw.BrokenKind.TheVariants as kind
-use Rattle.dj_class.specs.declared.class.raw.RawMember.{RawMember}
-use Rattle.dj_class.specs.declared.file.entry.Entry.{Entry}
-use Rattle.dj_class.specs.declared.file.entry.Entry.TheVariants as entry
-use Rattle.dj_class.specs.declared.file.own.OwnNames.{OwnNames}
-use Rattle.dj_class.specs.ClassFile.{u2, counted}
-use Rattle.dj_class.specs.ResolvedClass.{FieldOf, MethodOf}
+use Rattle.dj_class.specs.declared.fault.BrokenKind.{BrokenKind}
+use Rattle.dj_class.specs.declared.fault.BrokenKind.TheVariants as kind
+use Rattle.dj_class.specs.SharedParts.{RawMember, u2, counted}
+use Rattle.dj_class.specs.declared.entry.Entry.{Entry}
+use Rattle.dj_class.specs.declared.entry.Entry.TheVariants as entry
 use Rattle.dj_class.specs.PoolFormat.{text_at, class_at}
-use Rattle.dj_class.specs.FileFormat.{Raw, Own, LeadsTo, index_of, contents_of, file, sound}
+use Rattle.dj_class.specs.FileFormat.{Raw, LeadsTo, index_of, contents, file, sound}
+
+-- a field, its name by its units
+pub record FieldOf : Type 0 where
+  pub flags : ℕ
+  pub name : List ℕ
+  pub descriptor : JType
+  pub constant : Option Constant
+
+-- a method, the classes that it declares to throw, and the content of its Code
+pub record MethodOf : Type 0 where
+  pub flags : ℕ
+  pub name : List ℕ
+  pub descriptor : Descriptor
+  pub thrown : List Name
+  pub code : Option (List ℕ)
 
 -- a class as its file describes it
-pub record WholeClass : Type 0 where
+pub record ClassOf : Type 0 where
   pub minor : ℕ
   pub major : ℕ
   pub pool : List Entry
@@ -69,18 +81,18 @@ pub record DescribesField (pool : List Entry) (member : RawMember) (field : Fiel
   pub flags : field.flags ≡ member.flags
   pub name : text_at pool member.name ≡ Some field.name
   pub descriptor : IsSomeAnd (text_at pool member.descriptor) (λ units. SpellsDescriptor units (Field field.descriptor))
-  pub constant : IsConstant pool (contents_of pool (codes "ConstantValue") member.attributes) field.constant
+  pub constant : IsConstant pool (contents pool (codes "ConstantValue") member.attributes) field.constant
 
 -- the method that a method_info describes (JVMS 4.6, 4.7.3, 4.7.5)
-pub record DescribesAMethod (pool : List Entry) (member : RawMember) (method : MethodOf) : Type 0 where
+pub record DescribesMethod (pool : List Entry) (member : RawMember) (method : MethodOf) : Type 0 where
   pub flags : method.flags ≡ member.flags
   pub name : text_at pool member.name ≡ Some method.name
   pub descriptor : IsSomeAnd (text_at pool member.descriptor) (λ units. SpellsDescriptor units method.descriptor)
-  pub code : contents_of pool (codes "Code") member.attributes ≡ option_to_list method.code
-  pub thrown : IsThrown pool (contents_of pool (codes "Exceptions") member.attributes) method.thrown
+  pub code : contents pool (codes "Code") member.attributes ≡ option_to_list method.code
+  pub thrown : IsThrown pool (contents pool (codes "Exceptions") member.attributes) method.thrown
 
 -- the class that a class file describes
-pub record DescribesClass (raw : Raw) (class : WholeClass) : Type 0 where
+pub record DescribesClass (raw : Raw) (class : ClassOf) : Type 0 where
   pub minor : class.minor ≡ raw.front.minor
   pub major : class.major ≡ raw.front.major
   pub pool : class.pool ≡ raw.front.pool
@@ -89,10 +101,10 @@ pub record DescribesClass (raw : Raw) (class : WholeClass) : Type 0 where
   pub super_class : class.super_class ≡ class_at raw.front.pool raw.rest.own.super_class
   pub interfaces : AllZip (LeadsTo raw.front.pool) raw.rest.listed.interfaces class.interfaces
   pub fields : AllZip (DescribesField raw.front.pool) raw.rest.listed.fields class.fields
-  pub methods : AllZip (DescribesAMethod raw.front.pool) raw.rest.listed.methods class.methods
+  pub methods : AllZip (DescribesMethod raw.front.pool) raw.rest.listed.methods class.methods
 
 -- the bytes are a class file, one of a major version from `oldest` to 52, and this is its class
-pub record SpellsFile (bytes : List ℕ) (oldest : ℕ) (class : WholeClass) : Type 0 where
+pub record SpellsClass (bytes : List ℕ) (oldest : ℕ) (class : ClassOf) : Type 0 where
   pub raw : Raw
   pub laid_out : IsWhole (file oldest) bytes raw
   pub lawful : (sound oldest raw.front.pool).Fits raw
@@ -103,9 +115,3 @@ abbrev pub HasFault : List ℕ → ℕ → Fault BrokenKind → Type 0
 HasFault bytes oldest fault =
     whole.FirstFault (file oldest) kind.Trailing bytes fault
     ⊎ ((raw : Raw) × IsWhole (file oldest) bytes raw × (sound oldest raw.front.pool).Halts (length bytes) bytes fault)
-
--- what a file says of the class itself, for a class and a superclass of these names
-pub record DescribesOwn (pool : List Entry) (own : Own) (class : OwnNames) : Type 0 where
-  pub flags : class.flags ≡ own.flags
-  pub this_class : LeadsTo pool own.this_class class.this_class
-  pub super_class : class.super_class ≡ class_at pool own.super_class

@@ -10,13 +10,12 @@ use Rattle.dj_names.specs.Types.{JType, Boolean, Byte, Char, Short, Int, Long, F
 use Rattle.dj_names.specs.Assignable.{object_name}
 use Rattle.dj_names.specs.ClassNames.{IsClassName}
 use Rattle.dj_names.specs.Descriptors.{SpellsDescriptor}
-use Rattle.dj_class.specs.declared.class.raw.BrokenKind.{BrokenKind}
-use Rattle.dj_class.specs.declared.class.raw.BrokenKind.TheVariants as kind
-use Rattle.dj_class.specs.declared.class.raw.Attribute.{Attribute}
-use Rattle.dj_class.specs.declared.class.raw.RawMember.{RawMember}
-use Rattle.dj_class.specs.declared.file.entry.Entry.{Entry}
-use Rattle.dj_class.specs.declared.file.front.Front.{Front}
-use Rattle.dj_class.specs.ClassFile.{u2, counted, attribute, member, magic}
+use Rattle.dj_class.specs.declared.fault.BrokenKind.{BrokenKind}
+use Rattle.dj_class.specs.declared.fault.BrokenKind.TheVariants as kind
+use Rattle.dj_class.specs.declared.raw.Attribute.{Attribute}
+use Rattle.dj_class.specs.SharedParts.{RawMember, u2, counted, attribute, member, magic}
+use Rattle.dj_class.specs.declared.entry.Entry.{Entry}
+use Rattle.dj_class.specs.declared.front.Front.{Front}
 use Rattle.dj_class.specs.PoolFormat.{HasTag, IsFieldText, IsMethodText, text_at, class_at, pool}
 
 -- the flags of a class, and the indices of the class and its superclass
@@ -99,7 +98,7 @@ file oldest = file_of (front oldest None) plain_rest
 -- ---- what is asked of the rest
 
 -- an interface is abstract and not final, and no class is both (JVMS 4.1)
-pub record HasLawfulFlags (flags : ℕ) : Type 0 where
+pub record HasClassFlags (flags : ℕ) : Type 0 where
   pub interface_abstract : IsBitSet flags 9 → IsBitSet flags 10
   pub interface_not_final : IsBitSet flags 9 → ¬ IsBitSet flags 4
   pub not_both : ¬ (IsBitSet flags 10 × IsBitSet flags 4)
@@ -118,14 +117,14 @@ pub record IsSuperIndex (pool : List Entry) (flags this_class index : ℕ) : Typ
   pub of_interface : IsBitSet flags 9 → LeadsTo pool index object_name
 
 -- at most one of ACC_PUBLIC, ACC_PRIVATE and ACC_PROTECTED (JVMS 4.5, 4.6)
-pub record IsOneAccess (flags : ℕ) : Type 0 where
+pub record HasOneAccess (flags : ℕ) : Type 0 where
   pub not_public_private : ¬ (IsBitSet flags 0 × IsBitSet flags 1)
   pub not_public_protected : ¬ (IsBitSet flags 0 × IsBitSet flags 2)
   pub not_private_protected : ¬ (IsBitSet flags 1 × IsBitSet flags 2)
 
 -- a field isn't final and volatile (JVMS 4.5)
 pub record HasFieldFlags (flags : ℕ) : Type 0 where
-  pub one_access : IsOneAccess flags
+  pub one_access : HasOneAccess flags
   pub not_both : ¬ (IsBitSet flags 4 × IsBitSet flags 6)
 
 -- there is a text at the index
@@ -138,8 +137,8 @@ is_name name None = false
 is_name name (Some units) = bytes_eq units name
 
 -- the contents of the attributes of this name, in file order
-abbrev pub contents_of : List Entry → List ℕ → List Attribute → List (List ℕ)
-contents_of pool name attributes =
+abbrev pub contents : List Entry → List ℕ → List Attribute → List (List ℕ)
+contents pool name attributes =
     map (λ a. a.content) (filter (λ a. is_name name (text_at pool a.name)) attributes)
 
 -- an attribute whose name is a text
@@ -193,13 +192,13 @@ pub record IsExceptions (pool : List Entry) (content : List ℕ) : Type 0 where
 
 -- an attribute of a field that stands behind these: a ConstantValue is the first, and right
 pub record IsLawfulInField (pool : List Entry) (descriptor : ℕ) (before : List Attribute) (this : Attribute) : Type 0 where
-  pub first : text_at pool this.name ≡ Some (codes "ConstantValue") → contents_of pool (codes "ConstantValue") before ≡ []
+  pub first : text_at pool this.name ≡ Some (codes "ConstantValue") → contents pool (codes "ConstantValue") before ≡ []
   pub right : text_at pool this.name ≡ Some (codes "ConstantValue") → IsConstantValue pool descriptor this.content
 
 -- an attribute of a method that stands behind these: a Code is the first, and so is an Exceptions, which is right
 pub record IsLawfulInMethod (pool : List Entry) (before : List Attribute) (this : Attribute) : Type 0 where
-  pub first_code : text_at pool this.name ≡ Some (codes "Code") → contents_of pool (codes "Code") before ≡ []
-  pub first_exceptions : text_at pool this.name ≡ Some (codes "Exceptions") → contents_of pool (codes "Exceptions") before ≡ []
+  pub first_code : text_at pool this.name ≡ Some (codes "Code") → contents pool (codes "Code") before ≡ []
+  pub first_exceptions : text_at pool this.name ≡ Some (codes "Exceptions") → contents pool (codes "Exceptions") before ≡ []
   pub right : text_at pool this.name ≡ Some (codes "Exceptions") → IsExceptions pool this.content
 
 -- ACC_NATIVE or ACC_ABSTRACT (JVMS table 4.6-A)
@@ -208,7 +207,7 @@ IsBodiless flags = IsBitSet flags 8 ⊎ IsBitSet flags 10
 
 -- a method has a Code, or is native or abstract, and not both (JVMS 4.7.3)
 abbrev pub HasBodyAs : List Entry → ℕ → List Attribute → Type 0
-HasBodyAs pool flags attributes = (contents_of pool (codes "Code") attributes ≡ []) ↔ IsBodiless flags
+HasBodyAs pool flags attributes = (contents pool (codes "Code") attributes ≡ []) ↔ IsBodiless flags
 
 -- ---- the last passes: the same bytes, with what is asked of each part where it begins
 
@@ -242,7 +241,7 @@ method_attributes pool flags =
 -- a method (JVMS 4.6)
 abbrev pub method : List Entry → Layout BrokenKind RawMember
 method pool =
-    headed (λ m. m.flags) (asked u2 IsOneAccess kind.Flags) (λ flags.
+    headed (λ m. m.flags) (asked u2 HasOneAccess kind.Flags) (λ flags.
     headed (λ m. m.name) (member_name pool) (λ name.
     headed (λ m. m.descriptor) (asked u2 (λ index. IsSomeAnd (text_at pool index) IsMethodText) kind.Descriptor) (λ descriptor.
     headed (λ m. m.attributes) (method_attributes pool flags) (λ attributes.
@@ -251,7 +250,7 @@ method pool =
 -- flags, class and superclass behind this pool
 abbrev pub lawful_own : List Entry → Layout BrokenKind Own
 lawful_own pool =
-    headed (λ o. o.flags) (asked u2 HasLawfulFlags kind.Flags) (λ flags.
+    headed (λ o. o.flags) (asked u2 HasClassFlags kind.Flags) (λ flags.
     headed (λ o. o.this_class) (asked u2 (IsClassIndex pool) kind.Index) (λ this_class.
     headed (λ o. o.super_class) (asked u2 (IsSuperIndex pool flags this_class) kind.Index) (λ super_class.
     exactly (record { flags = flags; this_class = this_class; super_class = super_class }))))

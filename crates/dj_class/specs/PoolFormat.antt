@@ -10,13 +10,13 @@ use Rattle.dj_names.specs.Types.{JType, Array, Field, Method}
 use Rattle.dj_names.specs.ClassNames.{IsClassName}
 use Rattle.dj_names.specs.Descriptors.{SpellsDescriptor}
 use Rattle.dj_names.specs.Utf8.{IsUnit, AreNoUnits, spell_units}
-use Rattle.dj_class.specs.declared.class.raw.BrokenKind.{BrokenKind}
-use Rattle.dj_class.specs.declared.class.raw.BrokenKind.TheVariants as kind
-use Rattle.dj_class.specs.declared.file.entry.Entry.{Entry}
-use Rattle.dj_class.specs.declared.file.entry.Entry.TheVariants as entry
-use Rattle.dj_class.specs.declared.file.entry.Ask.{Ask}
-use Rattle.dj_class.specs.declared.file.entry.Ask.TheVariants as ask
-use Rattle.dj_class.specs.ClassFile.{u2}
+use Rattle.dj_class.specs.declared.fault.BrokenKind.{BrokenKind}
+use Rattle.dj_class.specs.declared.fault.BrokenKind.TheVariants as kind
+use Rattle.dj_class.specs.declared.entry.Entry.{Entry}
+use Rattle.dj_class.specs.declared.entry.Entry.TheVariants as entry
+use Rattle.dj_class.specs.declared.entry.Ask.{Ask}
+use Rattle.dj_class.specs.declared.entry.Ask.TheVariants as ask
+use Rattle.dj_class.specs.SharedParts.{u2}
 
 -- ---- what an entry is made of
 

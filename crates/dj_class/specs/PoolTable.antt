@@ -5,8 +5,8 @@ use Rattle.dj_names.specs.declared.descriptor.Descriptor as code_descriptor
 use Rattle.dj_names.specs.Types.{JType, Boolean, Byte, Char, Short, Int, Long, Float, Double, Class, Array, Descriptor, view_descriptor}
 use Rattle.dj_names.specs.ClassNames.{IsClassName}
 use Rattle.dj_names.specs.Descriptors.{SpellsDescriptor}
-use Rattle.dj_class.specs.declared.file.entry.Entry.{Entry}
-use Rattle.dj_class.specs.declared.file.parsed.Parsed.{Parsed}
+use Rattle.dj_class.specs.declared.entry.Entry.{Entry}
+use Rattle.dj_class.specs.declared.parsed.Parsed.{Parsed}
 use Rattle.dj_class.specs.PoolFormat.{text_of}
 
 -- what is read of characters, where there are any: the descriptor that they spell, or None where they spell none

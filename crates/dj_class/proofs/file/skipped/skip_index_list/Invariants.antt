@@ -1,7 +1,0 @@
-use Rattle.dj_layout.specs.Layout.{SpellsAny}
-use Rattle.dj_layout.specs.Parts.{times}
-use Rattle.dj_class.specs.ClassFile.{u2}
-use Rattle.dj_class.proofs.file.skipped.skip_index_list.Given as goal
-
-abbrev pub invariant-loop : goal.invariant-loop
-invariant-loop l = SpellsAny (times l.counter u2) l.bytes l.rest
