@@ -1,6 +1,10 @@
 -- What the public contracts rest on, in reading order.
-pub mod ClassFile
-pub mod ResolvedClass
-pub mod FirstForm
+pub mod SharedParts
+pub mod PoolFormat
+pub mod FileFormat
+pub mod Described
+pub mod FaultOf
+pub mod Views
 -- What the crate keeps to itself.
-pub mod FirstParts
+pub mod PoolTable
+pub mod FileParts

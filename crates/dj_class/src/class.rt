@@ -1,42 +1,28 @@
-//! Class files (JVMS 4): what they are, and the reader of those of the first form.
+//! A class as its file describes it, and the reader of class files (JVMS 4.1).
 
-mod descriptors;
-mod methods;
-mod names;
-mod pool;
-mod raw;
-mod resolve;
-mod sound;
+ghost use Rattle.std.specs.Prelude.{◌≡◌, IfOk, IfErr};
+ghost use Rattle.dj_layout.specs.declared.fault.Fault.{Fault};
+ghost use Rattle.dj_class.specs.declared.fault.BrokenKind as spec;
+ghost use Rattle.dj_class.specs.Described.{ClassOf, SpellsClass, HasFault};
+ghost use Rattle.dj_class.specs.Views.{view_class, IsBroken, GivesClass, GivesFault};
+ghost use Rattle.dj_class.specs.FileParts.{ReadsFile};
 
-ghost use Rattle.std.specs.Prelude.{◌≡◌, IfOk, IfSome, IfNone};
-ghost use Rattle.dj_class.specs.ResolvedClass as spec;
-ghost use Rattle.dj_class.specs.FirstForm.{IsFirstForm, view_class};
-
+use crate::copies::{copy_fields, copy_methods};
+use crate::fault::{BrokenKind, ClassFault, fault_of};
+use crate::front::read_front;
+use crate::listed::sound_at;
+use crate::method::Method;
+use crate::pool::Pool;
 use dj_layout::Stop;
-use dj_names::{ClassName, Descriptor, Field, Items, Units};
-pub use pool::has_attribute;
-use raw::read_raw;
-pub use raw::{Attribute, BrokenKind, Entry, attributes_at};
-use resolve::class_of;
+use dj_names::{ClassName, Field, Items, copy_names};
 use std::alloc::{AllocError, Global};
-
-/// A method: its flags, name and descriptor, the classes that it declares to throw, and the
-/// content of its Code attribute.
-#[derive(Drop)]
-pub struct Method {
-    pub flags: u16,
-    pub name: Units,
-    pub descriptor: Descriptor,
-    pub thrown: Items<ClassName>,
-    pub code: Option<Items<u8>>,
-}
 
 /// A class as its file describes it.
 #[derive(Drop)]
 pub struct ClassFile {
     pub minor: u16,
     pub major: u16,
-    pub pool: Items<Entry>,
+    pub pool: Pool,
     pub flags: u16,
     pub this_class: ClassName,
     pub super_class: Option<ClassName>,
@@ -45,15 +31,66 @@ pub struct ClassFile {
     pub methods: Items<Method>,
 }
 
-/// The class that the bytes spell, if they are a class file of the first form.
-pub fn read_class(alloc: Global, bytes: &[u8]) -> Result<Option<ClassFile>, AllocError>
-    ensures read { IfOk result (λ found. IfSome found (λ class. IsFirstForm bytes.now (view_class class))) }
-    ensures absent { IfOk result (λ found. IfNone found ((class : spec.ClassOf) → ¬ IsFirstForm bytes.now class)) }
-    ensures one { (a b : spec.ClassOf) → IsFirstForm bytes.now a → IsFirstForm bytes.now b → a ≡ b }
+impl ClassFile {
+    /// An equal class, which shares its names and its types with this one.
+    pub fn copy(&self, alloc: Global) -> Result<ClassFile, AllocError>
+        ensures equal { IfOk result (λ copy. copy ≡ self.now) }
+    {
+        let super_class = match &self.super_class {
+            Some(name) => Some(name.copy(alloc)?),
+            None => None,
+        };
+        Ok(ClassFile {
+            minor: self.minor,
+            major: self.major,
+            pool: self.pool.copy(alloc)?,
+            flags: self.flags,
+            this_class: self.this_class.copy(alloc)?,
+            super_class,
+            interfaces: copy_names(alloc, self.interfaces.as_slice())?,
+            fields: copy_fields(alloc, self.fields.as_slice())?,
+            methods: copy_methods(alloc, self.methods.as_slice())?,
+        })
+    }
+}
+
+/// The class of the bytes, or their fault.
+fn read_file(alloc: Global, bytes: &[u8], oldest: u16) -> Result<ClassFile, Stop<BrokenKind>>
+    ensures reads { ReadsFile bytes.now oldest result }
 {
-    match read_raw(alloc, bytes) {
-        Ok(raw) => class_of(alloc, raw),
-        Err(Stop::Fault(_)) => Ok(None),
-        Err(Stop::Memory) => Err(AllocError),
+    let front = read_front(alloc, oldest, bytes)?;
+    let pool = Pool::new(alloc, front.pool)?;
+    let ((own, members), _rest) = sound_at(alloc, oldest, &pool, bytes, bytes.len())?;
+    Ok(ClassFile {
+        minor: front.minor,
+        major: front.major,
+        pool,
+        flags: own.flags,
+        this_class: own.this_class,
+        super_class: own.super_class,
+        interfaces: members.interfaces,
+        fields: members.fields,
+        methods: members.methods,
+    })
+}
+
+/// The class whose file the bytes are, of a major version from `oldest` to 52.
+pub fn read_class(alloc: Global, bytes: &[u8], oldest: u16) -> Result<ClassFile, ClassFault>
+    // What is read is the class of the bytes.
+    ensures read { IfOk result (λ class. SpellsClass bytes.now oldest (view_class class)) }
+    // What is broken is so at the first fault of the bytes.
+    ensures broken { IfErr result (IsBroken bytes.now oldest) }
+    // The class of the bytes is read, unless memory runs out.
+    ensures value { (class : ClassOf) → SpellsClass bytes.now oldest class → GivesClass result class }
+    // The fault of the bytes is answered, unless memory runs out.
+    ensures fault { (fault : Fault spec.BrokenKind) → HasFault bytes.now oldest fault → GivesFault result fault }
+    // Bytes have one class at most.
+    ensures one_class { (a b : ClassOf) → SpellsClass bytes.now oldest a → SpellsClass bytes.now oldest b → a ≡ b }
+    // Bytes have one fault at most.
+    ensures one_fault { (f g : Fault spec.BrokenKind) → HasFault bytes.now oldest f → HasFault bytes.now oldest g → f ≡ g }
+{
+    match read_file(alloc, bytes, oldest) {
+        Ok(class) => Ok(class),
+        Err(why) => Err(fault_of(why)),
     }
 }

@@ -2,8 +2,8 @@
 use Rattle.std.proofs.Common.{◌≡◌, ℕ, List, [], ◌++◌, refl, append_assoc}
 use Rattle.std.proofs.lemmas.List.{append-nil}
 use Rattle.dj_layout.specs.Layout.{Spells}
-use Rattle.dj_class.specs.ClassFile.{u2, counted, attribute}
-use Rattle.dj_class.proofs.ClassLayout.{four_parts}
+use Rattle.dj_class.specs.SharedParts.{u2, counted, attribute}
+use Rattle.dj_class.proofs.RestParts.{four_texts}
 use Rattle.dj_code.specs.declared.content.RawHandler.{RawHandler}
 use Rattle.dj_code.specs.declared.content.CodeContent.{CodeContent}
 use Rattle.dj_code.specs.CodeContent.{code, handler, content}
@@ -13,7 +13,7 @@ pub spells_handler : (bytes behind_start behind_end behind_target rest : List �
     → Spells u2 bytes h.start behind_start → Spells u2 behind_start h.end behind_end → Spells u2 behind_end h.target behind_target → Spells u2 behind_target h.class rest → Spells handler bytes h rest
 spells_handler bytes behind_start behind_end behind_target rest h p q r s = record {
   fits = (p.fits, (q.fits, (r.fits, (s.fits, refl))));
-  text = four_parts (u2.spell h.start) (u2.spell h.end) (u2.spell h.target) (u2.spell h.class) bytes behind_start behind_end behind_target rest p.text q.text r.text s.text;
+  text = four_texts bytes behind_start behind_end behind_target rest (u2.spell h.start) (u2.spell h.end) (u2.spell h.target) (u2.spell h.class) p.text q.text r.text s.text;
 }
 
 -- five parts, one after the other

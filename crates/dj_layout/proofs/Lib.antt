@@ -2,6 +2,8 @@ pub mod Numbers
 pub mod Steps
 pub mod Loops
 pub mod PartsAreExact
+pub mod PassesAreExact
+pub mod Sequences
 pub mod PartsAreTotal
 pub mod Laws
 pub mod ExampleIsExact

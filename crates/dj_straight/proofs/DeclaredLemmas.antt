@@ -13,7 +13,7 @@ use Rattle.std.proofs.lemmas.Map.Lookups.{exact_unsigned, exact_bytes, exact_pai
 use Rattle.std.proofs.lemmas.List.{length-replicate}
 use Rattle.std.proofs.lemmas.List.Elements.{Contains-append_left, Contains-push, Contains-push_cases}
 use Rattle.dj_names.specs.Types.{JType, Int}
-use Rattle.dj_class.specs.ResolvedClass.{MethodOf}
+use Rattle.dj_class.specs.Described.{MethodOf}
 use Rattle.dj_straight.specs.declared.declared.Declared.{Declared}
 use Rattle.dj_straight.specs.StraightMethod.{HasSignature, IsDeclared}
 use Rattle.dj_straight.specs.DeclaredMethods.{entry_cmp, Holds}

@@ -8,7 +8,7 @@ use Rattle.dj_layout.proofs.Laws.{whole_unique}
 use Rattle.dj_names.specs.declared.types.JType as code_types
 use Rattle.dj_names.specs.Types.{JType, Int, Descriptor, Field, Method, parameters_of, view_type, view_types}
 use Rattle.dj_code.specs.declared.content.CodeContent.{CodeContent}
-use Rattle.dj_class.specs.ResolvedClass.{ClassOf, MethodOf}
+use Rattle.dj_class.specs.Described.{ClassOf, MethodOf}
 use Rattle.dj_code.specs.CodeContent as layouts
 use Rattle.dj_code.proofs.ContentIsExact.{exact-content}
 use Rattle.dj_straight.specs.declared.straight_method.Judged.{Judged}

@@ -16,7 +16,7 @@ use Rattle.dj_values.specs.Values.{Value, Int, Long, Null, Ref, Answer, Show, Is
 use Rattle.dj_values.specs.Values as ends
 use Rattle.dj_values.specs.Fits.{AreValuesOf, is_static, behind_this}
 use Rattle.dj_values.specs.Outcomes.{State, Outcome, Is, bind, opening, shown}
-use Rattle.dj_class.specs.ResolvedClass.{ClassOf, MethodOf}
+use Rattle.dj_class.specs.Described.{ClassOf, MethodOf}
 use Rattle.dj_code.specs.declared.code.Kind.TheVariants as kind
 use Rattle.dj_code.specs.declared.code.Calc.{Calc}
 use Rattle.dj_code.specs.declared.code.Calc.TheVariants as calc

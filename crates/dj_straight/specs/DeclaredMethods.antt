@@ -6,7 +6,7 @@ use Rattle.std.specs.Cmp.Lexicographic.{slice_cmp}
 use Rattle.std.specs.Borrow.{Bor}
 use Rattle.std.specs.BTreeSet.{contains}
 use Rattle.dj_names.specs.Types.{Int, parameters_of}
-use Rattle.dj_class.specs.ResolvedClass.{MethodOf}
+use Rattle.dj_class.specs.Described.{MethodOf}
 use Rattle.dj_straight.specs.declared.declared.Declared.{Declared}
 use Rattle.dj_straight.specs.StraightMethod.{IsDeclared}
 

@@ -1,9 +1,9 @@
 -- What is found of a method, part by part.
 use Rattle.std.specs.Prelude.{◌≡◌, ◌⊎◌, ℕ, IsTrue, List, [], ⊤}
 use Rattle.dj_names.specs.Identifiers.{IsIdentifier}
-use Rattle.dj_class.specs.declared.class.raw.Entry.{Entry}
+use Rattle.dj_class.specs.declared.entry.Entry.{Entry}
 use Rattle.dj_code.specs.declared.content.CodeContent.{CodeContent}
-use Rattle.dj_class.specs.ResolvedClass.{ClassOf, MethodOf}
+use Rattle.dj_class.specs.Described.{ClassOf, MethodOf}
 use Rattle.dj_syntax.specs.Trees.{Exp, view_exp}
 use Rattle.dj_syntax.specs.UnitText.{is_interface}
 use Rattle.dj_values.specs.Fits.{is_static}

@@ -2,8 +2,8 @@
 
 ghost use Rattle.std.specs.Prelude.{◌≡◌, List, [], ◌∷◌, ◌++◌, MatchBool, IfOk, IfSome, OnOk, replicate};
 ghost use Rattle.dj_names.specs.Types.{Int, parameters_of, view_descriptor};
-ghost use Rattle.dj_class.specs.ResolvedClass.{MethodOf};
-ghost use Rattle.dj_class.specs.FirstForm.{view_method};
+ghost use Rattle.dj_class.specs.Described.{MethodOf};
+ghost use Rattle.dj_class.specs.Views.{view_method};
 
 use crate::ints::ints_taken;
 use dj_class::Method;

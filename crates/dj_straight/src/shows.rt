@@ -4,7 +4,7 @@ ghost use Rattle.std.specs.Prelude.{List};
 ghost use Rattle.dj_names.specs.declared.header.Header.{Header};
 ghost use Rattle.dj_names.specs.declared.members.ClassMembers.{ClassMembers};
 ghost use Rattle.dj_syntax.specs.Trees.{Exp, Body};
-ghost use Rattle.dj_class.specs.ResolvedClass.{ClassOf, MethodOf};
+ghost use Rattle.dj_class.specs.Described.{ClassOf, MethodOf};
 ghost use Rattle.dj_code.specs.declared.code.Code.{Code};
 ghost use Rattle.dj_bytecode.specs.SameShows.{SameShows};
 ghost use Rattle.dj_straight.specs.StraightMethod.{IsStraightMethod, IsBodyOf, HasCode};

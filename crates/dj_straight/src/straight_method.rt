@@ -6,8 +6,8 @@ ghost use Rattle.dj_names.specs.Types.{parameters_of, view_descriptor};
 ghost use Rattle.dj_syntax.specs.Trees.{view_body, view_exp};
 ghost use Rattle.dj_syntax.specs.WellFormed.{IsWellFormedExp};
 ghost use Rattle.dj_values.specs.Fits.{is_static};
-ghost use Rattle.dj_class.specs.ResolvedClass.{MethodOf};
-ghost use Rattle.dj_class.specs.FirstForm.{view_class, view_method};
+ghost use Rattle.dj_class.specs.Described.{MethodOf};
+ghost use Rattle.dj_class.specs.Views.{view_class, view_method};
 ghost use Rattle.dj_straight.specs.DeclaredMethods.{Holds};
 ghost use Rattle.dj_straight.specs.StraightMethod.{IsBodyOf, IsDeclared, is_public};
 ghost use Rattle.dj_straight.specs.Judged.{HasPlainHead, IsJudged, IsJudgedContent, IfStraight};
@@ -15,7 +15,7 @@ ghost use Rattle.dj_straight.specs.Judged.{HasPlainHead, IsJudged, IsJudgedConte
 use crate::declared::Declared;
 use crate::ints::answers_int;
 use crate::straight::{Rebuilt, straight_body};
-use dj_class::{ClassFile, Entry, Method, has_attribute};
+use dj_class::{ClassFile, Method, Pool, has_attribute};
 use dj_code::{CodeContent, read_content};
 use dj_names::{Items, copy_names, is_identifier};
 use dj_syntax::{Body, Exp, Stm, is_interface, method_bits};
@@ -58,7 +58,7 @@ fn has_plain_head(class: &ClassFile, method: &Method) -> bool
 /// What is found of the content of a Code attribute.
 fn judge_content(
     alloc: Global,
-    pool: &[Entry],
+    pool: &Pool,
     content: &CodeContent,
     parameters: usize,
 ) -> Result<Judged, AllocError>
@@ -101,7 +101,7 @@ fn judge_first(
         return Ok(Judged::NotYet(0));
     };
     match read_content(alloc, code.as_slice())? {
-        Some(content) => judge_content(alloc, class.pool.as_slice(), &content, parameters),
+        Some(content) => judge_content(alloc, &class.pool, &content, parameters),
         None => Ok(Judged::NotYet(0)),
     }
 }

@@ -1,6 +1,7 @@
-//! A class file of the first form, its beginnings, and the content of its code; worked runs in `rows/` show files that differ from it in little.
-use dj_class::{has_attribute, read_class};
+//! A class file, its beginnings, and the content of its code; worked runs in `rows/` show files that differ from it in little.
+use dj_class::{BrokenKind, ClassFault, ClassFile, Entry, Pool, has_attribute, read_class};
 use dj_code::{CodeContent, read_content};
+use dj_names::Items;
 use std::alloc::{AllocError, Global};
 use std::test::Fail;
 
@@ -26,50 +27,92 @@ fn part(from: usize, to: usize) -> &'static [u8] {
     longer().get(from..to).unwrap_or(&[])
 }
 
-/// The version, the flags, and how many entries and methods the class has that these bytes are.
-fn numbers(alloc: Global, bytes: &[u8]) -> Result<[usize; 4], AllocError> {
-    Ok(match read_class(alloc, bytes)? {
-        Some(class) => [
-            usize::from(class.major),
-            usize::from(class.flags),
-            class.pool.len(),
-            class.methods.len(),
-        ],
-        None => [0; 4],
-    })
+/// The class that the bytes are, copied.
+fn copied(alloc: Global, bytes: &[u8]) -> Result<ClassFile, ClassFault> {
+    Ok(read_class(alloc, bytes, 50)?.copy(alloc)?)
+}
+
+/// The version, the flags, and how many entries and methods the class has.
+fn numbers(class: &ClassFile) -> [usize; 4] {
+    [
+        usize::from(class.major),
+        usize::from(class.flags),
+        class.pool.as_slice().len(),
+        class.methods.len(),
+    ]
+}
+
+/// Whether a copy of the class's only method is called `f` and has a code.
+fn has_its_method(alloc: Global, class: &ClassFile) -> Result<bool, AllocError> {
+    let [method] = class.methods.as_slice() else {
+        return Ok(false);
+    };
+    let copy = method.copy(alloc)?;
+    Ok(copy.name.as_slice() == [0x66].as_slice() && copy.code.is_some())
+}
+
+/// Whether a copy of the pool begins with a text, behind the index that has no entry.
+fn has_its_text(alloc: Global, pool: &Pool) -> Result<bool, AllocError> {
+    let copy = pool.copy(alloc)?;
+    let [Entry::Skip, first, ..] = copy.as_slice() else {
+        return Ok(false);
+    };
+    Ok(matches!(first.copy(alloc)?, Entry::Utf8(_)))
 }
 
 #[test]
-fn a_class_of_the_first_form_is_read(rt: HostRuntime) -> Result<(), Fail> {
-    assert_eq!(rt; numbers(rt.alloc(), part(0, 102))?, [52, 0x21, 8, 1]);
+fn a_class_is_read_and_copied(rt: HostRuntime) -> Result<(), Fail> {
+    let class = copied(rt.alloc(), part(0, 102))?;
+    assert_eq!(rt; numbers(&class), [52, 0x21, 8, 1]);
+    assert!(rt; has_its_method(rt.alloc(), &class)?);
+    assert!(rt; has_its_text(rt.alloc(), &class.pool)?);
     Ok(())
 }
 
-fn is_class(alloc: Global, bytes: &[u8]) -> Result<bool, AllocError> {
-    Ok(read_class(alloc, bytes)?.is_some())
+/// What is wrong with the bytes, where they are no class.
+fn broken(alloc: Global, bytes: &[u8]) -> Result<Option<(BrokenKind, u32)>, AllocError> {
+    match read_class(alloc, bytes, 50) {
+        Ok(_) => Ok(None),
+        Err(ClassFault::Broken { kind, offset }) => Ok(Some((kind, offset))),
+        Err(ClassFault::Memory(error)) => Err(error),
+    }
+}
+
+/// Whether the bytes end before the class does.
+fn is_cut(alloc: Global, bytes: &[u8]) -> Result<bool, AllocError> {
+    Ok(matches!(broken(alloc, bytes)?, Some((BrokenKind::Short, _))))
 }
 
 #[test]
 fn fewer_bytes_or_more_are_no_class(rt: HostRuntime) -> Result<(), Fail> {
-    for end in 0..104 {
-        assert_eq!(rt; is_class(rt.alloc(), part(0, end))?, end == 102, "at {end}");
+    for end in 0..102 {
+        assert!(rt; is_cut(rt.alloc(), part(0, end))?, "at {end}");
     }
+    assert_eq!(rt;
+        broken(rt.alloc(), part(0, 101))?,
+        Some((BrokenKind::Short, 100))
+    );
+    assert_eq!(rt;
+        broken(rt.alloc(), part(0, 103))?,
+        Some((BrokenKind::Trailing, 102))
+    );
     Ok(())
 }
 
 /// Whether this is the content of the method's Code.
-fn is_content(content: &CodeContent) -> bool {
+fn is_content(pool: &Pool, content: &CodeContent) -> bool {
     content.max_stack == 2
         && content.max_locals == 2
         && content.code.as_slice() == [0x1a, 0x1b, 0x64, 0xac].as_slice()
         && content.handlers.is_empty()
-        && !has_attribute(&[], content.attributes.as_slice(), "StackMapTable")
+        && !has_attribute(pool, content.attributes.as_slice(), "StackMapTable")
 }
 
 /// Whether these bytes are the content of the method's Code.
 fn holds_content(alloc: Global, bytes: &[u8]) -> Result<bool, AllocError> {
+    let pool = Pool::new(alloc, Items::new(alloc))?;
     Ok(match read_content(alloc, bytes)? {
-        Some(content) => is_content(&content),
+        Some(content) => is_content(&pool, &content),
         None => false,
     })
 }

@@ -1,23 +1,31 @@
-use Rattle.dj_class.specs.ClassFile.{file}
-use Rattle.dj_class.specs.ResolvedClass.{ClassOf}
-use Rattle.dj_class.specs.FirstForm.{IsFirstForm, view_class}
-use Rattle.dj_class.proofs.ClassIsExact.{exact-file, faulty_is_no_spelling}
-use Rattle.dj_class.proofs.ClassFirstForm.{found_form, absent_form}
-use Rattle.dj_class.proofs.ClassIsUnique.{first_form_unique}
+use Rattle.dj_class.specs.Views.{view_class}
+use Rattle.dj_class.proofs.FileIsUnique.{one_class, file_has_no_fault, one_file_fault}
+use Rattle.dj_class.proofs.FileRead.{broken_so, gives_class, gives_fault}
 use Rattle.dj_class.proofs.class.read_class.Goals as goal
 
-pub returns-in-Ok : goal.returns-in-Ok
-returns-in-Ok c =
-    record {
-      read = found_form view_class c.args.bytes.now c.in-Ok.raw c.class_of.result c.in-Ok.ensures.reads c.class_of.ensures.some;
-      absent = absent_form c.args.bytes.now c.in-Ok.raw c.class_of.result c.in-Ok.ensures.reads c.class_of.ensures.none;
-      one = first_form_unique c.args.bytes.now;
-    }
+pub returns-in-Ok-clause-value : goal.returns-in-Ok-clause-value
+returns-in-Ok-clause-value c = λ class spells. one_class c.args.bytes.now c.args.oldest class (view_class c.in-Ok.class) spells c.in-Ok.ensures.reads
 
-pub returns-in-Err-Fault : goal.returns-in-Err-Fault
-returns-in-Err-Fault c =
-    let unspelled = faulty_is_no_spelling file exact-file c.args.bytes.now c.in-Err-Fault.field-0 c.in-Err-Fault.field-0-0 c.in-Err-Fault.ensures.reads c.in-Err-Fault.field-0-is in
-    record { read = tt; absent = λ (class : ClassOf) (form : IsFirstForm c.args.bytes.now class). unspelled form.spelled.raw form.spelled.laid_out; one = first_form_unique c.args.bytes.now }
+pub returns-in-Ok-clause-fault : goal.returns-in-Ok-clause-fault
+returns-in-Ok-clause-fault c = λ fault has. file_has_no_fault c.args.bytes.now c.args.oldest (view_class c.in-Ok.class) fault c.in-Ok.ensures.reads has
 
-pub returns-in-Err-Memory : goal.returns-in-Err-Memory
-returns-in-Err-Memory c = record { read = tt; absent = tt; one = first_form_unique c.args.bytes.now }
+pub returns-in-Ok-clause-one_class : goal.returns-in-Ok-clause-one_class
+returns-in-Ok-clause-one_class c = one_class c.args.bytes.now c.args.oldest
+
+pub returns-in-Ok-clause-one_fault : goal.returns-in-Ok-clause-one_fault
+returns-in-Ok-clause-one_fault c = one_file_fault c.args.bytes.now c.args.oldest
+
+pub returns-in-Err-clause-broken : goal.returns-in-Err-clause-broken
+returns-in-Err-clause-broken c = broken_so c.args.bytes.now c.args.oldest c.in-Err.why c.fault_of.result c.in-Err.ensures.reads c.fault_of.ensures.fault
+
+pub returns-in-Err-clause-value : goal.returns-in-Err-clause-value
+returns-in-Err-clause-value c = gives_class c.args.bytes.now c.args.oldest c.in-Err.why c.fault_of.result c.in-Err.ensures.reads c.fault_of.ensures.fault
+
+pub returns-in-Err-clause-fault : goal.returns-in-Err-clause-fault
+returns-in-Err-clause-fault c = gives_fault c.args.bytes.now c.args.oldest c.in-Err.why c.fault_of.result c.in-Err.ensures.reads c.fault_of.ensures.fault
+
+pub returns-in-Err-clause-one_class : goal.returns-in-Err-clause-one_class
+returns-in-Err-clause-one_class c = one_class c.args.bytes.now c.args.oldest
+
+pub returns-in-Err-clause-one_fault : goal.returns-in-Err-clause-one_fault
+returns-in-Err-clause-one_fault c = one_file_fault c.args.bytes.now c.args.oldest

@@ -1,5 +1,5 @@
 use Rattle.std.proofs.lemmas.Result.{IfOk-weaker}
-use Rattle.dj_class.specs.FirstForm.{view_class, view_method}
+use Rattle.dj_class.specs.Views.{view_class, view_method}
 use Rattle.dj_straight.proofs.StraightMethodLemmas.{not_first}
 use Rattle.dj_straight.proofs.straight_method.judge.Goals as goal
 

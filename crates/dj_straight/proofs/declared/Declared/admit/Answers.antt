@@ -1,5 +1,5 @@
 use Rattle.std.proofs.Common.{refl, sym, ◌∙◌, subst}
-use Rattle.dj_class.specs.FirstForm.{view_method}
+use Rattle.dj_class.specs.Views.{view_method}
 use Rattle.dj_straight.specs.StraightMethod.{IsDeclared}
 use Rattle.dj_straight.proofs.declared.Declared.admit.Goals as goal
 
