@@ -6,7 +6,7 @@ use Rattle.std.proofs.lemmas.List.Elements.{recursion_from_All}
 use Rattle.dj_names.specs.ClassNames.{segments}
 use Rattle.dj_names.specs.Identifiers.{IsIdentifier}
 use Rattle.dj_names.specs.Sayable.{IsSayable}
-use Rattle.dj_class.specs.ResolvedClass.{ClassOf, MethodOf}
+use Rattle.dj_class.specs.Described.{ClassOf, MethodOf}
 use Rattle.dj_syntax.specs.Trees.{Exp, Body, CompilationUnit}
 use Rattle.dj_syntax.specs.UnitText.{is_initialiser, is_interface}
 use Rattle.dj_syntax.specs.WellFormed.{IsWellFormed, IsWellFormedMethod, IsWellFormedExp, IsQualified, HasMethodName, class_name, held_class, held_method}
@@ -39,12 +39,12 @@ simple_name (Some in_package) simple unit package-is name-is plain whole =
     let name : class_name unit ≡ in_package ++ 47 ∷ simple = rw (package-is, name-is) refl in
     AllByRecursion-front IsIdentifier (segments in_package) simple (rw (name, segments-append in_package simple plain) at whole)
 
--- the flags of a class of the first form, as its text gives them back
+-- the flags of a class that is printed, as its text gives them back
 flags_held : (flags : ℕ) → (flags ≡ 0x20) ⊎ (flags ≡ 0x21) → (held_class flags ≡ held_class (held_class flags)) × (is_interface (held_class flags) ≡ false)
 flags_held flags (inl is) = rw is (refl, refl)
 flags_held flags (inr is) = rw is (refl, refl)
 
--- the flags of a method of the first form, as its text gives them back
+-- the flags of a method of such a class, as its text gives them back
 method_flags_held : (method : MethodOf) (body : Body) → (method.flags ≡ 0x8) ⊎ (method.flags ≡ 0x9) → is_initialiser method.name ≡ false → (method_text method body).flags ≡ held_method false (method_text method body)
 method_flags_held method body (inl is) no_initialiser = rw (no_initialiser, is) refl
 method_flags_held method body (inr is) no_initialiser = rw (no_initialiser, is) refl
@@ -75,7 +75,7 @@ method_well_formed class before method exp body flags straight fits of_method = 
   };
 }
 
--- the unit of a class of the first form is well formed where the texts of its methods are
+-- the unit of such a class is well formed where the texts of its methods are
 pub unit_well_formed : (class : ClassOf) (bodies : List (Option Body)) (unit : CompilationUnit) → (class.flags ≡ 0x20) ⊎ (class.flags ≡ 0x21) → IsSayable class.this_class → IsClassText class bodies unit → All (λ letter. letter ≢ 47) unit.name
     → AllByRecursion (IsWellFormedMethod false class.this_class) (printed_methods class.methods bodies) → IsWellFormed unit
 unit_well_formed class bodies unit flags sayable text plain methods =

@@ -1,21 +1,18 @@
 -- What loading one more file adds to the names asked and to the files loaded, and what reading one adds to those read.
-use Rattle.std.proofs.Common.{◌≡◌, ℕ, ◌+◌, ◌<◌, ◌≤◌, List, [], ◌∷◌, ◌++◌, length, get_or, take, map, Option, Some, None, refl, suc, sym, ap, ◌∙◌, subst, arith, append_assoc, inl, inr, All}
-use Rattle.std.specs.Prelude.{IfNone, IfSome, IsSomeAnd, slice_get}
+use Rattle.std.proofs.Common.{◌≡◌, ℕ, ◌+◌, ◌<◌, ◌≤◌, List, [], ◌∷◌, ◌++◌, length, get_or, take, map, Option, Some, None, refl, suc, sym, ap, ◌∙◌, subst, arith, append_assoc, inl, inr}
+use Rattle.std.specs.Prelude.{IfSome, IsSomeAnd, slice_get}
 use Rattle.std.specs.Option.{option_map}
-use Rattle.std.specs.List.{AllZip, AllByRecursion}
+use Rattle.std.specs.List.{AllZip}
 use Rattle.std.proofs.lemmas.List.{take_more, take-map, take_all, map_push}
-use Rattle.std.proofs.lemmas.List.Elements.{All-push, All-from_recursion}
+use Rattle.std.proofs.lemmas.List.Elements.{All-push}
 use Rattle.std.proofs.lemmas.Option.{slice_get-map, slice_get-get_or}
 use Rattle.dj_outer.specs.Count.{Rose}
 use Rattle.dj_outer.specs.Files.{file_named, HasFile, with_asked}
-use Rattle.dj_class.specs.declared.class.ClassFile.{ClassFile}
-use Rattle.dj_class.specs.ResolvedClass.{ClassOf}
-use Rattle.dj_class.specs.FirstForm.{IsFirstForm, view_class}
 use Rattle.dj_cli.specs.declared.loading.LoadStop.{LoadStop}
 use Rattle.dj_cli.specs.declared.loading.LoadStop.TheVariants.{Fault, Over, Memory}
 use Rattle.dj_cli.specs.Output.{Files, FileIs, IsFile, AreContents, most_bytes}
 use Rattle.dj_cli.specs.Program.{AsksFront, CanLoad, IsTooMuch, ReadFails, asked_with}
-use Rattle.dj_cli.specs.Loading.{Stopped, StoppedAt, IsRead, found_of}
+use Rattle.dj_cli.specs.Loading.{Stopped, StoppedAt}
 
 -- the items in front of one place and that one, seen by a function
 pub map_take_more : {X Y : Type 0} (f : X → Y) (xs : List X) (i : ℕ) (x : X) → i < length xs → x ≡ get_or xs i x → map f (take (i + 1) xs) ≡ map f (take i xs) ++ f x ∷ []
@@ -100,11 +97,6 @@ module _ (held : Option Files) (asked_old before asked_new : Option (List (List 
 
 -- ---- files read
 
--- what a file is read as is what it is
-pub is_read : (bytes : List ℕ) (found : Option ClassFile) → IfSome found (λ class. IsFirstForm bytes (view_class class)) → IfNone found ((class : ClassOf) → ¬ IsFirstForm bytes class) → IsFile bytes (found_of found)
-is_read bytes None class other = other
-is_read bytes (Some class) form other = form
-
 -- one more file is read
 pub read_more : (contents : List (List ℕ)) (found : List FileIs) (bytes : List ℕ) (file : FileIs) → AllZip IsFile contents found → IsFile bytes file → AllZip IsFile (contents ++ bytes ∷ []) (found ++ file ∷ [])
 read_more [] [] bytes file each one = (one, tt)
@@ -118,13 +110,3 @@ read_number [] [] each = refl
 read_number [] (other ∷ found) each = absurd each
 read_number (other ∷ contents) [] each = absurd each
 read_number (other ∷ contents) (first ∷ found) each = ap suc (read_number contents found each.1)
-
--- what is found of some bytes
-read_each : (contents : List (List ℕ)) (found : List FileIs) → AllZip IsFile contents found → AllByRecursion IsRead found
-read_each [] [] each = tt
-read_each [] (other ∷ found) each = absurd each
-read_each (other ∷ contents) [] each = absurd each
-read_each (bytes ∷ contents) (first ∷ found) each = ((bytes, each.0), read_each contents found each.1)
-
-pub all_read : (contents : List (List ℕ)) (found : List FileIs) → AllZip IsFile contents found → All IsRead found
-all_read contents found each = All-from_recursion IsRead found (read_each contents found each)

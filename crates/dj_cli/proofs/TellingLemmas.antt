@@ -1,9 +1,11 @@
 -- Pieces told one after another, and where telling them stops.
-use Rattle.std.proofs.Common.{◌≡◌, ◌≢◌, ℕ, ◌+◌, Bool, true, false, not, ◌==◌, ◌||◌, List, [], ◌∷◌, ◌++◌, length, Option, Some, refl, sym, ap, ◌∙◌, subst, append-nil, inl, inr}
+use Rattle.std.proofs.Common.{◌≡◌, ◌≢◌, ℕ, ◌+◌, Bool, true, false, not, ◌==◌, ◌||◌, List, [], ◌∷◌, ◌++◌, length, take, Option, Some, Ok, Err, refl, sym, ap, ◌∙◌, subst, append-nil, inl, inr}
 use Rattle.std.specs.Prelude.{MatchBool, slice_get}
 use Rattle.std.specs.Io.KnownBytes.{append_known}
 use Rattle.std.proofs.lemmas.List.{flat_map_more, length_push, nil_from_length}
 use Rattle.std.proofs.lemmas.Bool.Decides.{eqb_tells}
+use Rattle.dj_outer.specs.declared.files.Failed.{Failed}
+use Rattle.dj_outer.specs.Sink.{Puts}
 use Rattle.dj_outer.proofs.PutsLemmas.{known-then, known-nothing}
 use Rattle.dj_names.specs.Shown.{show_units}
 use Rattle.dj_cli.specs.declared.methods.MethodLine.{MethodLine}
@@ -156,3 +158,28 @@ has-line class lines empty is =
       | inl w ↦ subst (λ flag. MatchBool (not flag) (lines_bytes class lines ≢ []) (lines_bytes class lines ≡ [])) (sym (is ∙ w.0)) (ap (lines_bytes class) (nil_from_length lines w.1))
       | inr w ↦ subst (λ flag. MatchBool (not flag) (lines_bytes class lines ≢ []) (lines_bytes class lines ≡ [])) (sym (is ∙ w.0)) (lines-some class lines (λ nil. w.1 (ap length nil)))
     ]
+
+-- ---- a piece that is one line
+
+module _ (Is : Piece → Type 0) (line : List ℕ) (is : Is (record { text = []; lines = line })) (text : Option (List ℕ)) {report_old report_new : Option (List ℕ)} {faults_old faults_new : ℕ} where
+  -- the line was put
+  pub tells-line : {done : Unit {0}} → line ≢ [] → Puts (Ok done) report_old report_new faults_old faults_new line → TellsPiece Is true text text report_old report_new
+  tells-line some puts = record {
+    piece = record { text = []; lines = line };
+    is = is;
+    text_taken = known-nothing text;
+    report_taken = puts.ok;
+    refused_is = some;
+  }
+
+  -- the line was cut off
+  pub cuts-line : {fault : Failed} → Puts (Err fault) report_old report_new faults_old faults_new line → CutsPiece Is InLines text text report_old report_new
+  cuts-line puts = record {
+    piece = record { text = []; lines = line };
+    is = is;
+    text = [];
+    lines = take puts.prefix.0 line;
+    front = (puts.prefix.0, refl, refl);
+    text_taken = known-nothing text;
+    report_taken = puts.prefix.1;
+  }

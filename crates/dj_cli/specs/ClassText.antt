@@ -1,6 +1,6 @@
 -- The unit of a class, given the bodies of its methods (JVMS 4.1, 4.6; JLS 7.4, 8.1, 8.4).
 use Rattle.std.specs.Prelude.{◌≡◌, ◌≢◌, ◌<◌, All, length, slice_index, ℕ, List, [], ◌∷◌, ◌++◌, Option, Some, None, false, bit_and, codes}
-use Rattle.dj_class.specs.ResolvedClass.{ClassOf, MethodOf}
+use Rattle.dj_class.specs.Described.{ClassOf, MethodOf}
 use Rattle.dj_syntax.specs.Trees.{Body, MethodText, CompilationUnit}
 use Rattle.dj_syntax.specs.UnitText.{method_bits}
 use Rattle.dj_syntax.specs.WellFormed.{class_name, held_class}

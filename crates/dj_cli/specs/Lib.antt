@@ -3,6 +3,7 @@ pub mod Status
 pub mod Words
 pub mod Report
 pub mod ClassText
+pub mod ClassPart
 pub mod Output
 pub mod Program
 pub mod Loading

@@ -1,11 +1,12 @@
--- How loading the files of an order ends, and what each file is read as.
-use Rattle.std.specs.Prelude.{◌≡◌, ◌⊎◌, ℕ, List, map, Option, Some, None, Vec}
+-- How loading the files of an order ends, and what is found of each file.
+use Rattle.std.specs.Prelude.{◌≡◌, ◌⊎◌, ℕ, List, map, Vec}
 use Rattle.std.specs.declared.alloc.Global.{Global}
-use Rattle.dj_class.specs.declared.class.ClassFile.{ClassFile}
-use Rattle.dj_class.specs.FirstForm.{view_class}
+use Rattle.dj_class.specs.Views.{view_class}
+use Rattle.dj_cli.specs.declared.loading.Found.{Found}
+use Rattle.dj_cli.specs.declared.loading.Found.TheVariants as found
 use Rattle.dj_cli.specs.declared.loading.LoadStop.{LoadStop}
 use Rattle.dj_cli.specs.declared.loading.LoadStop.TheVariants.{Fault, Over, Memory}
-use Rattle.dj_cli.specs.Output.{FileIs, IsClass, IsOther, IsFile}
+use Rattle.dj_cli.specs.Output.{FileIs, IsClass, IsBroken}
 
 -- the bytes of each file
 abbrev pub contents_of : List (Vec ℕ Global) → List (List ℕ)
@@ -23,15 +24,11 @@ StoppedAt here (Fault place) fails is_over asked unasked = (place ≡ here) × f
 StoppedAt here (Over place) fails is_over asked unasked = (place ≡ here) × is_over × asked
 StoppedAt here (Memory error) fails is_over asked unasked = unasked ⊎ asked
 
--- what a file is, by what was read of it
-abbrev pub found_of : Option ClassFile → FileIs
-found_of None = IsOther
-found_of (Some class) = IsClass (view_class class)
+-- what a file is, by what was found of it
+abbrev pub found_of : Found → FileIs
+found_of (found.Class class) = IsClass (view_class class)
+found_of (found.Broken kind offset) = IsBroken kind offset
 
 -- the same of each file
-abbrev pub all_found : List (Option ClassFile) → List FileIs
+abbrev pub all_found : List Found → List FileIs
 all_found found = map found_of found
-
--- some bytes are such a file
-abbrev pub IsRead : FileIs → Type 0
-IsRead file = (bytes : List ℕ) × IsFile bytes file

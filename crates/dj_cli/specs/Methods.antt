@@ -2,7 +2,7 @@
 use Rattle.std.specs.Prelude.{◌≡◌, ℕ, false, List, [], ◌++◌, string_bytes}
 use Rattle.std.specs.List.{AllByRecursion, flat_map}
 use Rattle.dj_names.specs.Types.{view_descriptor}
-use Rattle.dj_class.specs.ResolvedClass.{ClassOf, MethodOf}
+use Rattle.dj_class.specs.Described.{ClassOf, MethodOf}
 use Rattle.dj_syntax.specs.Trees.{Exp, Body, MethodText}
 use Rattle.dj_syntax.specs.WellFormed.{IsWellFormedMethod}
 use Rattle.dj_straight.specs.StraightMethod.{IsBodyOf}

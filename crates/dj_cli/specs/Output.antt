@@ -3,10 +3,12 @@ use Rattle.std.specs.Prelude.{◌≡◌, ◌≢◌, ◌⊎◌, ℕ, ◌+◌, ◌
 use Rattle.std.specs.List.{AllZip, flat_map}
 use Rattle.std.specs.Io.KnownBytes.{append_known}
 use Rattle.dj_outer.specs.Files.{file_named}
+use Rattle.dj_layout.specs.declared.fault.Fault.{Fault}
 use Rattle.dj_names.specs.declared.header.Header.{Header}
 use Rattle.dj_names.specs.declared.members.ClassMembers.{ClassMembers}
-use Rattle.dj_class.specs.ResolvedClass.{ClassOf, MethodOf}
-use Rattle.dj_class.specs.FirstForm.{IsFirstForm}
+use Rattle.dj_class.specs.declared.fault.BrokenKind.{BrokenKind}
+use Rattle.dj_class.specs.Described.{ClassOf, MethodOf, SpellsClass, HasFault}
+use Rattle.dj_class.specs.FaultOf.{shown_place}
 use Rattle.dj_syntax.specs.Trees.{Exp, Body, CompilationUnit}
 use Rattle.dj_syntax.specs.UnitText.{unit_text}
 use Rattle.dj_syntax.specs.WellFormed.{IsWellFormed}
@@ -14,6 +16,7 @@ use Rattle.dj_code.specs.declared.code.Code.{Code}
 use Rattle.dj_bytecode.specs.SameShows.{SameShows}
 use Rattle.dj_straight.specs.StraightMethod.{IsStraightMethod, IsNotYet, IsBodyOf, HasCode}
 use Rattle.dj_cli.specs.ClassText.{IsClassText, file_line}
+use Rattle.dj_cli.specs.ClassPart.{IsClassPart}
 use Rattle.dj_cli.specs.Report.{line_text}
 use Rattle.dj_cli.specs.Report as report
 
@@ -83,20 +86,25 @@ pub record PrintsClass (class : ClassOf) (piece : Piece) : Type 0 where
   pub text_is : piece.text ≡ file_line class.this_class ++ unit_text unit
   pub lines_are : piece.lines ≡ method_lines class class.methods verdicts
 
--- what a file is: a class of the first form, or another file
+-- the piece of a class: it is printed, where it is of the class part; else there is the line that nothing of it is printed yet
+pub data IsClassPiece (class : ClassOf) (piece : Piece) : Type 0 where
+  printed : IsClassPart class → PrintsClass class piece → IsClassPiece class piece
+  not_yet : ¬ IsClassPart class → piece.text ≡ [] → piece.lines ≡ line_text (report.NotYetClass class.this_class) → IsClassPiece class piece
+
+-- what a file is: a class, or broken, by what is wrong first and its offset
 pub data FileIs : Type 0 where
   IsClass : ClassOf → FileIs
-  IsOther : FileIs
+  IsBroken : BrokenKind → ℕ → FileIs
 
--- the bytes are a class file of the first form, of this class, or of none
+-- the bytes are a class file of Java SE 6 to 8, of this class; or they have a fault of this kind, at this offset as a report gives it
 abbrev pub IsFile : List ℕ → FileIs → Type 0
-IsFile bytes (IsClass class) = IsFirstForm bytes class
-IsFile bytes IsOther = (class : ClassOf) → ¬ IsFirstForm bytes class
+IsFile bytes (IsClass class) = SpellsClass bytes 50 class
+IsFile bytes (IsBroken kind offset) = (fault : Fault BrokenKind) × HasFault bytes 50 fault × (kind ≡ fault.kind) × (offset ≡ shown_place fault.offset)
 
--- the piece of a file of this name: its class, or the line that nothing of it is printed yet
+-- the piece of a file of this name: that of its class, or the line that it is broken
 abbrev pub IsFilePiece : List ℕ → FileIs → Piece → Type 0
-IsFilePiece name (IsClass class) piece = PrintsClass class piece
-IsFilePiece name IsOther piece = (piece.text ≡ []) × (piece.lines ≡ line_text (report.NotYet name))
+IsFilePiece name (IsClass class) piece = IsClassPiece class piece
+IsFilePiece name (IsBroken kind offset) piece = (piece.text ≡ []) × (piece.lines ≡ line_text (report.Broken name kind offset))
 
 -- ---- all files
 

@@ -3,7 +3,7 @@
 ghost use Rattle.std.specs.Prelude.{◌≡◌, ◌≢◌, ◌<◌, ℕ, List, Option, All, IfOk, IfSome, IfNone, length, map, slice_index};
 ghost use Rattle.dj_syntax.specs.Trees as trees;
 ghost use Rattle.dj_syntax.specs.Trees.{view_unit};
-ghost use Rattle.dj_class.specs.FirstForm.{view_class};
+ghost use Rattle.dj_class.specs.Views.{view_class};
 ghost use Rattle.dj_cli.specs.ClassText.{IsClassText, IsSplit, IsLastSlash, file_line, printed_methods};
 
 use dj_class::ClassFile;

@@ -3,6 +3,7 @@
 //! The program uses `run`, whose clauses are the headline.
 #![tactic(auto)]
 
+mod class_part;
 mod class_text;
 mod loading;
 mod methods;

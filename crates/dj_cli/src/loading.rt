@@ -7,14 +7,17 @@ ghost use Rattle.dj_outer.specs.Count.{Rose};
 ghost use Rattle.dj_outer.specs.Files.{HasFile, with_asked};
 ghost use Rattle.dj_cli.specs.Output.{AreContents, IsFile, most_bytes};
 ghost use Rattle.dj_cli.specs.Program.{AsksFront, IsTooMuch, ReadFails, asked_with};
-ghost use Rattle.dj_cli.specs.Loading.{Stopped, StoppedAt, all_found, contents_of};
+ghost use Rattle.dj_cli.specs.Loading.{Stopped, StoppedAt, all_found, contents_of, found_of};
 
-use dj_class::{ClassFile, read_class};
+use dj_class::{BrokenKind, ClassFault, ClassFile, read_class};
 use dj_outer::{Files, LoadFault, Loaded};
 use std::alloc::{AllocError, AllocFailed, Global};
 
 /// The most bytes that a file may have.
 pub const MOST_BYTES: usize = 16_777_216;
+
+/// The oldest major version that is read, that of Java SE 6.
+const OLDEST: u16 = 50;
 
 /// Why not all files were loaded.
 #[derive(Drop)]
@@ -88,13 +91,32 @@ pub fn load_files<F: Files>(
     Ok(contents)
 }
 
-/// What each file is: a class of the first form, or another file.
-pub fn read_files(alloc: Global, contents: &[Vec<u8>]) -> Result<Vec<Option<ClassFile>>, AllocError>
+/// What is found of a file.
+#[derive(Drop)]
+pub enum Found {
+    Class(ClassFile),
+    /// What is wrong with it first, and at which offset.
+    Broken { kind: BrokenKind, offset: u32 },
+}
+
+/// What the bytes of a file are.
+fn read_file(alloc: Global, bytes: &[u8]) -> Result<Found, AllocError>
+    ensures read { IfOk result (λ found. IsFile bytes.now (found_of found)) }
+{
+    match read_class(alloc, bytes, OLDEST) {
+        Ok(class) => Ok(Found::Class(class)),
+        Err(ClassFault::Broken { kind, offset }) => Ok(Found::Broken { kind, offset }),
+        Err(ClassFault::Memory(error)) => Err(error),
+    }
+}
+
+/// What each file is.
+pub fn read_files(alloc: Global, contents: &[Vec<u8>]) -> Result<Vec<Found>, AllocError>
     ensures read { IfOk result (λ found. AllZip IsFile (contents_of contents.now) (all_found found.items)) }
 {
     let mut found = Vec::new(alloc);
     for bytes in contents {
-        found.push(read_class(alloc, bytes.as_slice())?)?;
+        found.push(read_file(alloc, bytes.as_slice())?)?;
     }
     Ok(found)
 }

@@ -2,7 +2,7 @@
 
 ghost use Rattle.std.specs.Prelude.{◌≡◌, ◌⊎◌, All, IfOk, map};
 ghost use Rattle.dj_names.specs.Types.{view_descriptor};
-ghost use Rattle.dj_class.specs.FirstForm.{view_class, view_method};
+ghost use Rattle.dj_class.specs.Views.{view_class, view_method};
 ghost use Rattle.dj_syntax.specs.Trees as trees;
 ghost use Rattle.dj_syntax.specs.Trees.{view_body, view_exp};
 ghost use Rattle.dj_cli.specs.ClassText.{method_text};

@@ -1,7 +1,8 @@
 //! What is told of a class, made whole before a byte of it is put.
 
-ghost use Rattle.std.specs.Prelude.{◌≡◌, ◌<◌, ℕ, List, All, IfOk};
-ghost use Rattle.dj_class.specs.FirstForm.{IsFirstForm, view_class};
+ghost use Rattle.std.specs.Prelude.{◌≡◌, ◌<◌, All, IfOk};
+ghost use Rattle.dj_class.specs.Views.{view_class};
+ghost use Rattle.dj_cli.specs.ClassPart.{IsClassPart};
 ghost use Rattle.dj_cli.specs.Output.{PrintsClass};
 ghost use Rattle.dj_cli.specs.Pieces.{piece_of, piece_of_parts};
 ghost use Rattle.dj_print.specs.Printable.{IsAscii};
@@ -27,7 +28,7 @@ pub struct ClassPiece<'a> {
 
 /// What is told of a class.
 pub fn piece_of_class(alloc: Global, class: &ClassFile) -> Result<ClassPiece<'_>, AllocError>
-    requires first_form { (bytes : List ℕ) × IsFirstForm bytes (view_class class.now) }
+    requires part { IsClassPart (view_class class.now) }
     ensures printed { IfOk result (λ piece. PrintsClass (view_class class.now) (piece_of class.now.this_class piece)) }
 {
     let Judgement { texts, lines } = judge_methods(alloc, class)?;

@@ -1,6 +1,6 @@
 //! The main job: the words are read, the files are loaded and read, and the piece of each is told.
 
-ghost use Rattle.std.specs.Prelude.{◌≡◌, ◌≤◌, ◌⊎◌, true, false, All, Ok, Err, length, map, IsOk, OnErr, ⊤};
+ghost use Rattle.std.specs.Prelude.{◌≡◌, ◌≤◌, ◌⊎◌, true, false, Ok, Err, length, map, IsOk, OnErr, ⊤};
 ghost use Rattle.std.specs.Io.KnownBytes.{append_known};
 ghost use Rattle.std.specs.String.{string_bytes};
 ghost use Rattle.dj_outer.specs.Count.{Rose};
@@ -10,15 +10,14 @@ ghost use Rattle.dj_cli.specs.Status.{MatchEnd, OnClean, OnRefused, IfUsage, IfR
 ghost use Rattle.dj_cli.specs.Report.{Line};
 ghost use Rattle.dj_cli.specs.Output.{InLines, InText, OfFiles, StopsForMemory, ToldAll, ToldFront, ToldSome};
 ghost use Rattle.dj_cli.specs.Program.{AsksFront, CutsLastLine, IsTooMuch, ReadFails, TellsLine, asked_with, due_names};
-ghost use Rattle.dj_cli.specs.Loading.{IsRead, all_found};
+ghost use Rattle.dj_cli.specs.Loading.{all_found};
 ghost use Rattle.dj_cli.specs.Run.{EndsSo};
 
-use crate::loading::{LoadStop, load_files, read_files};
+use crate::loading::{Found, LoadStop, load_files, read_files};
 use crate::report::{much_line, read_line, usage_line};
 use crate::status::Status;
 use crate::telling::{TellStop, tell_files};
 use crate::words::{WordsFault, read_words};
-use dj_class::ClassFile;
 use dj_outer::{Files, Sink};
 use std::alloc::{AllocError, Global};
 
@@ -37,12 +36,11 @@ fn last_line<P: Sink>(report: &mut P, line: &[u8], status: Status) -> Status
 fn tell<T: Sink, P: Sink>(
     alloc: Global,
     named: &[String],
-    found: &[Option<ClassFile>],
+    found: &[Found],
     text: &mut T,
     report: &mut P,
 ) -> Result<Status, AllocError>
     requires number { length found.now ≡ length named.now }
-    requires read { All IsRead (all_found found.now) }
     ensures clean { OnClean result (ToldAll false (T.taken text.old) (T.taken text.new) (P.taken report.old) (P.taken report.new) (map string_bytes named.now) (all_found found.now)) }
     ensures refused { OnRefused result (ToldAll true (T.taken text.old) (T.taken text.new) (P.taken report.old) (P.taken report.new) (map string_bytes named.now) (all_found found.now)) }
     ensures text_rose { OnTextFault result (Rose (T.faults text.old) (T.faults text.new)) }

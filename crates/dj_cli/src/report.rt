@@ -1,13 +1,13 @@
-//! The lines of the report: those that are made whole, and those on methods, which are put piece by piece.
+//! The lines of the report: those that are made whole, and those on classes and methods, which are put piece by piece.
 
 ghost use Rattle.std.specs.Prelude.{◌≡◌, ◌++◌, IfOk, string_bytes};
 ghost use Rattle.dj_names.specs.Types.{view_descriptor};
 ghost use Rattle.dj_outer.specs.Sink.{Puts};
-ghost use Rattle.dj_cli.specs.Report.{Line, kind_text, line_text, not_yet_tail, path_units, shown_method};
+ghost use Rattle.dj_cli.specs.Report.{Line, broken_text, kind_text, line_text, not_yet_tail, path_units, shown_method};
 
 use crate::putting::{put_descriptor, put_piece, put_units};
 use crate::status::UsageKind;
-use dj_class::Method;
+use dj_class::{BrokenKind, Method};
 use dj_names::{ClassName, Units};
 use dj_outer::{Failed, Sink};
 use std::alloc::{AllocError, Global};
@@ -24,12 +24,44 @@ fn path_units(alloc: Global, path: &str) -> Result<Units, AllocError>
     Ok(units)
 }
 
-/// A line that names a file of which nothing is printed yet.
-pub fn not_yet_line(alloc: Global, path: &str) -> Result<Vec<u8>, AllocError>
-    ensures line { IfOk result (λ line. line.items ≡ line_text (Line.NotYet path.now)) }
+/// The word for what is wrong with a class file.
+fn broken_text(kind: BrokenKind) -> &'static str
+    ensures text { result.now ≡ broken_text kind }
+{
+    match kind {
+        BrokenKind::Short => "Short",
+        BrokenKind::Magic => "Magic",
+        BrokenKind::Version => "Version",
+        BrokenKind::Tag => "Tag",
+        BrokenKind::Index => "Index",
+        BrokenKind::Units => "Units",
+        BrokenKind::Descriptor => "Descriptor",
+        BrokenKind::Trailing => "Trailing",
+        BrokenKind::Attribute => "Attribute",
+        BrokenKind::Flags => "Flags",
+    }
+}
+
+/// The line on a file of this path that is broken.
+pub fn broken_line(
+    alloc: Global,
+    path: &str,
+    kind: BrokenKind,
+    offset: u32,
+) -> Result<Vec<u8>, AllocError>
+    ensures line { IfOk result (λ line. line.items ≡ line_text (Line.Broken path.now kind offset)) }
 {
     let path = path_units(alloc, path)?;
-    Ok(format!(in alloc; "{path} notyet\n")?.into_bytes())
+    let kind = broken_text(kind);
+    Ok(format!(in alloc; "{path} broken {kind} {offset}\n")?.into_bytes())
+}
+
+/// Puts the line on a class of which nothing is printed yet.
+pub fn put_class_line<P: Sink>(report: &mut P, class: &ClassName) -> Result<(), Failed>
+    ensures puts { Puts result (P.taken report.old) (P.taken report.new) (P.faults report.old) (P.faults report.new) (line_text (Line.NotYetClass class.now)) }
+{
+    put_units(report, class.as_slice())?;
+    put_piece(report, b" notyet\n")
 }
 
 /// The end of the line on a method that isn't straight at this offset of its code.

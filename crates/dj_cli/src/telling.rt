@@ -1,21 +1,24 @@
 //! The pieces of files, told to the text and to the report.
 
-ghost use Rattle.std.specs.Prelude.{◌≡◌, ◌≤◌, ◌++◌, ℕ, List, Option, All, IfOk, IfErr, length, map};
+ghost use Rattle.std.specs.Prelude.{◌≡◌, ◌≤◌, ◌++◌, ℕ, List, Option, IfOk, IfErr, length, map};
 ghost use Rattle.std.specs.String.{string_bytes};
 ghost use Rattle.dj_outer.specs.Count.{Rose};
 ghost use Rattle.dj_outer.specs.Sink.{Puts};
-ghost use Rattle.dj_class.specs.FirstForm.{IsFirstForm, view_class};
-ghost use Rattle.dj_cli.specs.Loading.{IsRead, all_found, found_of};
+ghost use Rattle.dj_class.specs.Views.{view_class};
+ghost use Rattle.dj_cli.specs.ClassPart.{IsClassPart};
+ghost use Rattle.dj_cli.specs.Loading.{all_found, found_of};
 ghost use Rattle.dj_cli.specs.Methods.{lines_bytes};
-ghost use Rattle.dj_cli.specs.Output.{InLines, InText, IsFilePiece, IsOther, PrintsClass, ToldAll, ToldFront, ToldSome};
+ghost use Rattle.dj_cli.specs.Output.{InLines, InText, IsBroken, IsClassPiece, IsFilePiece, ToldAll, ToldFront, ToldSome};
 ghost use Rattle.dj_cli.specs.Pieces.{text_bytes};
 ghost use Rattle.dj_cli.specs.Telling.{StoppedTelling, StopsPiece, TellsPiece};
 
+use crate::class_part::is_class_part;
+use crate::loading::Found;
 use crate::methods::MethodLine;
 use crate::pieces::{ClassPiece, piece_of_class};
 use crate::putting::put_piece;
-use crate::report::{not_yet_line, put_method_line};
-use dj_class::ClassFile;
+use crate::report::{broken_line, put_class_line, put_method_line};
+use dj_class::{BrokenKind, ClassFile};
 use dj_names::ClassName;
 use dj_outer::{Failed, Sink};
 use std::alloc::{AllocError, Global};
@@ -59,16 +62,17 @@ fn put_lines<P: Sink>(report: &mut P, class: &ClassName, lines: &[MethodLine]) -
     Ok(())
 }
 
-/// Tells the piece of a class: its text, and then its lines, for which no memory is taken; whether it has a line.
-fn tell_class<T: Sink, P: Sink>(
+/// Tells the piece of a class that is printed: its text, and then its lines, for which no memory is taken; whether it
+/// has a line.
+fn tell_printed<T: Sink, P: Sink>(
     alloc: Global,
     class: &ClassFile,
     text: &mut T,
     report: &mut P,
 ) -> Result<bool, TellStop>
-    requires first_form { (bytes : List ℕ) × IsFirstForm bytes (view_class class.now) }
-    ensures told { IfOk result (λ refused. TellsPiece (PrintsClass (view_class class.now)) refused (T.taken text.old) (T.taken text.new) (P.taken report.old) (P.taken report.new)) }
-    ensures stopped { IfErr result (λ stop. StopsPiece (PrintsClass (view_class class.now)) stop (T.taken text.old) (T.taken text.new) (P.taken report.old) (P.taken report.new)) }
+    requires part { IsClassPart (view_class class.now) }
+    ensures told { IfOk result (λ refused. TellsPiece (IsClassPiece (view_class class.now)) refused (T.taken text.old) (T.taken text.new) (P.taken report.old) (P.taken report.new)) }
+    ensures stopped { IfErr result (λ stop. StopsPiece (IsClassPiece (view_class class.now)) stop (T.taken text.old) (T.taken text.new) (P.taken report.old) (P.taken report.new)) }
     ensures failed { IfErr result (λ stop. StoppedTelling stop (Rose (T.faults text.old) (T.faults text.new)) (Rose (P.faults report.old) (P.faults report.new)) (Unit {0})) }
 
     // What the call leaves.
@@ -85,14 +89,56 @@ fn tell_class<T: Sink, P: Sink>(
     Ok(!piece.lines.is_empty())
 }
 
-/// Tells the line on a file of which nothing is printed yet; that it has a line.
-fn tell_other<P: Sink>(alloc: Global, path: &str, report: &mut P) -> Result<bool, TellStop>
-    ensures told { (text : Option (List ℕ)) → IfOk result (λ refused. TellsPiece (IsFilePiece path.now IsOther) refused text text (P.taken report.old) (P.taken report.new)) }
-    ensures stopped { (text : Option (List ℕ)) → IfErr result (λ stop. StopsPiece (IsFilePiece path.now IsOther) stop text text (P.taken report.old) (P.taken report.new)) }
+/// Tells the line on a class of which nothing is printed yet; that it has a line.
+fn tell_not_yet<P: Sink>(class: &ClassFile, report: &mut P) -> Result<bool, TellStop>
+    requires other { ¬ IsClassPart (view_class class.now) }
+    ensures told { (text : Option (List ℕ)) → IfOk result (λ refused. TellsPiece (IsClassPiece (view_class class.now)) refused text text (P.taken report.old) (P.taken report.new)) }
+    ensures stopped { (text : Option (List ℕ)) → IfErr result (λ stop. StopsPiece (IsClassPiece (view_class class.now)) stop text text (P.taken report.old) (P.taken report.new)) }
     ensures failed { IfErr result (λ stop. StoppedTelling stop ⊥ (Rose (P.faults report.old) (P.faults report.new)) (Unit {0})) }
     ensures report_falls { P.faults report.old ≤ P.faults report.new }
 {
-    let line = not_yet_line(alloc, path)?;
+    match put_class_line(report, &class.this_class) {
+        Ok(()) => Ok(true),
+        Err(Failed) => Err(TellStop::Report),
+    }
+}
+
+/// Tells the piece of a class; whether it has a line.
+fn tell_class<T: Sink, P: Sink>(
+    alloc: Global,
+    class: &ClassFile,
+    text: &mut T,
+    report: &mut P,
+) -> Result<bool, TellStop>
+    ensures told { IfOk result (λ refused. TellsPiece (IsClassPiece (view_class class.now)) refused (T.taken text.old) (T.taken text.new) (P.taken report.old) (P.taken report.new)) }
+    ensures stopped { IfErr result (λ stop. StopsPiece (IsClassPiece (view_class class.now)) stop (T.taken text.old) (T.taken text.new) (P.taken report.old) (P.taken report.new)) }
+    ensures failed { IfErr result (λ stop. StoppedTelling stop (Rose (T.faults text.old) (T.faults text.new)) (Rose (P.faults report.old) (P.faults report.new)) (Unit {0})) }
+
+    // What the call leaves.
+    ensures text_falls { T.faults text.old ≤ T.faults text.new }
+    ensures report_falls { P.faults report.old ≤ P.faults report.new }
+{
+    if is_class_part(class) {
+        tell_printed(alloc, class, text, report)
+    } else {
+        tell_not_yet(class, report)
+    }
+}
+
+/// Tells the line on a file that is broken; that it has a line.
+fn tell_broken<P: Sink>(
+    alloc: Global,
+    path: &str,
+    kind: BrokenKind,
+    offset: u32,
+    report: &mut P,
+) -> Result<bool, TellStop>
+    ensures told { (text : Option (List ℕ)) → IfOk result (λ refused. TellsPiece (IsFilePiece path.now (IsBroken kind offset)) refused text text (P.taken report.old) (P.taken report.new)) }
+    ensures stopped { (text : Option (List ℕ)) → IfErr result (λ stop. StopsPiece (IsFilePiece path.now (IsBroken kind offset)) stop text text (P.taken report.old) (P.taken report.new)) }
+    ensures failed { IfErr result (λ stop. StoppedTelling stop ⊥ (Rose (P.faults report.old) (P.faults report.new)) (Unit {0})) }
+    ensures report_falls { P.faults report.old ≤ P.faults report.new }
+{
+    let line = broken_line(alloc, path, kind, offset)?;
     match put_piece(report, line.as_slice()) {
         Ok(()) => Ok(true),
         Err(Failed) => Err(TellStop::Report),
@@ -103,11 +149,10 @@ fn tell_other<P: Sink>(alloc: Global, path: &str, report: &mut P) -> Result<bool
 fn tell_file<T: Sink, P: Sink>(
     alloc: Global,
     path: &str,
-    found: &Option<ClassFile>,
+    found: &Found,
     text: &mut T,
     report: &mut P,
 ) -> Result<bool, TellStop>
-    requires read { IsRead (found_of found.now) }
     ensures told { IfOk result (λ refused. TellsPiece (IsFilePiece path.now (found_of found.now)) refused (T.taken text.old) (T.taken text.new) (P.taken report.old) (P.taken report.new)) }
     ensures stopped { IfErr result (λ stop. StopsPiece (IsFilePiece path.now (found_of found.now)) stop (T.taken text.old) (T.taken text.new) (P.taken report.old) (P.taken report.new)) }
     ensures failed { IfErr result (λ stop. StoppedTelling stop (Rose (T.faults text.old) (T.faults text.new)) (Rose (P.faults report.old) (P.faults report.new)) (Unit {0})) }
@@ -117,8 +162,8 @@ fn tell_file<T: Sink, P: Sink>(
     ensures report_falls { P.faults report.old ≤ P.faults report.new }
 {
     match found {
-        Some(class) => tell_class(alloc, class, text, report),
-        None => tell_other(alloc, path, report),
+        Found::Class(class) => tell_class(alloc, class, text, report),
+        Found::Broken { kind, offset } => tell_broken(alloc, path, *kind, *offset, report),
     }
 }
 
@@ -126,12 +171,11 @@ fn tell_file<T: Sink, P: Sink>(
 pub fn tell_files<T: Sink, P: Sink>(
     alloc: Global,
     named: &[String],
-    found: &[Option<ClassFile>],
+    found: &[Found],
     text: &mut T,
     report: &mut P,
 ) -> Result<bool, TellStop>
     requires number { length found.now ≡ length named.now }
-    requires read { All IsRead (all_found found.now) }
     ensures told { IfOk result (λ refused. ToldAll refused (T.taken text.old) (T.taken text.new) (P.taken report.old) (P.taken report.new) (map string_bytes named.now) (all_found found.now)) }
     ensures stopped { IfErr result (λ stop. StoppedTelling stop (ToldFront InText (T.taken text.old) (T.taken text.new) (P.taken report.old) (P.taken report.new) (map string_bytes named.now) (all_found found.now)) (ToldFront InLines (T.taken text.old) (T.taken text.new) (P.taken report.old) (P.taken report.new) (map string_bytes named.now) (all_found found.now)) (ToldSome (T.taken text.old) (T.taken text.new) (P.taken report.old) (P.taken report.new) (map string_bytes named.now) (all_found found.now))) }
     ensures failed { IfErr result (λ stop. StoppedTelling stop (Rose (T.faults text.old) (T.faults text.new)) (Rose (P.faults report.old) (P.faults report.new)) (Unit {0})) }

@@ -1,6 +1,6 @@
 use Rattle.std.proofs.Common.{◌≡◌, ◌<◌, ◌⊎◌, length, map, take, arith, All}
 use Rattle.std.proofs.lemmas.List.{map_push}
-use Rattle.dj_class.specs.FirstForm.{view_class, view_method}
+use Rattle.dj_class.specs.Views.{view_class, view_method}
 use Rattle.dj_syntax.specs.Trees as trees
 use Rattle.dj_syntax.specs.Trees.{view_exp}
 use Rattle.dj_straight.specs.Judged.{IsJudged}

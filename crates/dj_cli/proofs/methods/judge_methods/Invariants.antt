@@ -1,5 +1,5 @@
 use Rattle.std.proofs.Common.{map, take}
-use Rattle.dj_class.specs.FirstForm.{view_class, view_method}
+use Rattle.dj_class.specs.Views.{view_class, view_method}
 use Rattle.dj_syntax.specs.Trees as trees
 use Rattle.dj_straight.specs.DeclaredMethods.{Holds}
 use Rattle.dj_cli.specs.Methods.{AreJudged, lines_bytes}

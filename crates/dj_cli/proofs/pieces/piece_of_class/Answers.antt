@@ -1,5 +1,5 @@
 use Rattle.std.proofs.Common.{map}
-use Rattle.dj_class.specs.FirstForm.{view_class}
+use Rattle.dj_class.specs.Views.{view_class}
 use Rattle.dj_syntax.specs.Trees as trees
 use Rattle.dj_syntax.specs.Trees.{view_unit}
 use Rattle.dj_print.proofs.WellFormedIsAscii.{ascii_from_well_formed}
@@ -9,10 +9,10 @@ use Rattle.dj_cli.proofs.PiecesLemmas.{well_formed, prints_class}
 use Rattle.dj_cli.proofs.pieces.piece_of_class.Goals as goal
 
 pub judge_methods-requires : goal.judge_methods-requires
-judge_methods-requires c = record { flags = c.requires.first_form.1.method_flags }
+judge_methods-requires c = record { flags = λ i method inside. (c.requires.part.methods i method inside).flags }
 
 pub piece_of_unit-requires-clause-ascii : goal.piece_of_unit-requires-clause-ascii
-piece_of_unit-requires-clause-ascii c = ascii_name c.args.class.now.this_class c.requires.first_form.1.name
+piece_of_unit-requires-clause-ascii c = ascii_name c.args.class.now.this_class c.requires.part.name
 
 pub piece_of_unit-requires-clause-printable : goal.piece_of_unit-requires-clause-printable
 piece_of_unit-requires-clause-printable c =
@@ -20,8 +20,7 @@ piece_of_unit-requires-clause-printable c =
     let unit = view_unit c.in_ok-unit.unit in
     let texts = map trees.view_method c.in_ok-texts.field-0.texts in
     let lines = lines_bytes class.this_class c.in_ok-texts.field-0.lines.items in
-    let form = c.requires.first_form in
-    ascii_from_well_formed unit (well_formed form.0 class texts lines unit form.1 c.in_ok-texts.ensures.judged c.in_ok-unit.ensures.text c.in_ok-unit.ensures.simple)
+    ascii_from_well_formed unit (well_formed class texts lines unit c.requires.part c.in_ok-texts.ensures.judged c.in_ok-unit.ensures.text c.in_ok-unit.ensures.simple)
 
 pub returns : goal.returns
 returns c =
@@ -29,5 +28,4 @@ returns c =
     let unit = view_unit c.in_ok-unit.unit in
     let texts = map trees.view_method c.in_ok-texts.field-0.texts in
     let lines = lines_bytes class.this_class c.in_ok-texts.field-0.lines.items in
-    let form = c.requires.first_form in
-    record { printed = rw c.in_ok-piece.ensures.piece (prints_class form.0 class texts lines unit form.1 c.in_ok-texts.ensures.judged c.in_ok-unit.ensures.text c.in_ok-unit.ensures.simple) }
+    record { printed = rw c.in_ok-piece.ensures.piece (prints_class class texts lines unit c.requires.part c.in_ok-texts.ensures.judged c.in_ok-unit.ensures.text c.in_ok-unit.ensures.simple) }

@@ -4,21 +4,16 @@ use Rattle.dj_cli.specs.declared.status.Status.TheVariants.{ReadFault, TooMuch}
 use Rattle.dj_cli.specs.Report.{Read, Much}
 use Rattle.dj_cli.specs.Loading.{all_found, contents_of, found_of}
 use Rattle.dj_cli.specs.Program.{read, much}
-use Rattle.dj_cli.proofs.LoadingLemmas.{all_read, read_number}
+use Rattle.dj_cli.proofs.LoadingLemmas.{read_number}
 use Rattle.dj_cli.proofs.RunLemmas.{ends-report}
 use Rattle.dj_cli.proofs.program.print_files.Goals as goal
 
-pub tell-requires-clause-number : goal.tell-requires-clause-number
-tell-requires-clause-number g c =
+pub tell-requires : goal.tell-requires
+tell-requires g c =
     let found = c.in_ok-found-in-Ok.found.items in
     let as_many = read_number (contents_of c.as_slice.result.now) (all_found found) c.in_ok-found-in-Ok.ensures.read in
     let contents : length c.as_slice.result.now ≡ length c.args.named.now = ap length c.as_slice.ensures.value ∙ c.in-Ok.ensures.number in
-    ap length c.as_slice-in-Ok.ensures.value ∙ sym (length-map found found_of) ∙ as_many ∙ length-map c.as_slice.result.now (λ bytes. bytes.items) ∙ contents
-
-pub tell-requires-clause-read : goal.tell-requires-clause-read
-tell-requires-clause-read g c =
-    rw c.as_slice-in-Ok.ensures.value
-    (all_read (contents_of c.as_slice.result.now) (all_found c.in_ok-found-in-Ok.found.items) c.in_ok-found-in-Ok.ensures.read)
+    record { number = ap length c.as_slice-in-Ok.ensures.value ∙ sym (length-map found found_of) ∙ as_many ∙ length-map c.as_slice.result.now (λ bytes. bytes.items) ∙ contents }
 
 pub returns-in_ok-line-in-Err-Fault-clause-report_fault :
     goal.returns-in_ok-line-in-Err-Fault-clause-report_fault

@@ -1,16 +1,16 @@
 use Rattle.dj_cli.proofs.telling.tell_file.Goals as goal
 
-pub returns-in-Some-clause-told : goal.returns-in-Some-clause-told
-returns-in-Some-clause-told g c = rw c.in-Some.is c.tell_class.ensures.told
+pub returns-in-Class-clause-told : goal.returns-in-Class-clause-told
+returns-in-Class-clause-told g c = rw c.in-Class.is c.tell_class.ensures.told
 
-pub returns-in-Some-clause-stopped : goal.returns-in-Some-clause-stopped
-returns-in-Some-clause-stopped g c = rw c.in-Some.is c.tell_class.ensures.stopped
+pub returns-in-Class-clause-stopped : goal.returns-in-Class-clause-stopped
+returns-in-Class-clause-stopped g c = rw c.in-Class.is c.tell_class.ensures.stopped
 
-pub returns-in-Some-clause-failed : goal.returns-in-Some-clause-failed
-returns-in-Some-clause-failed g c = c.tell_class.ensures.failed
+pub returns-in-Class-clause-failed : goal.returns-in-Class-clause-failed
+returns-in-Class-clause-failed g c = c.tell_class.ensures.failed
 
-pub returns-in-None-clause-told : goal.returns-in-None-clause-told
-returns-in-None-clause-told g c = rw c.in-None.is (c.tell_other.ensures.told (g.T.Sink.taken c.args.text.now))
+pub returns-in-Broken-clause-told : goal.returns-in-Broken-clause-told
+returns-in-Broken-clause-told g c = rw c.in-Broken.is (c.tell_broken.ensures.told (g.T.Sink.taken c.args.text.now))
 
-pub returns-in-None-clause-stopped : goal.returns-in-None-clause-stopped
-returns-in-None-clause-stopped g c = rw c.in-None.is (c.tell_other.ensures.stopped (g.T.Sink.taken c.args.text.now))
+pub returns-in-Broken-clause-stopped : goal.returns-in-Broken-clause-stopped
+returns-in-Broken-clause-stopped g c = rw c.in-Broken.is (c.tell_broken.ensures.stopped (g.T.Sink.taken c.args.text.now))

@@ -2,10 +2,9 @@ use Rattle.std.proofs.Common.{◌≡◌, ◌<◌, length, map, sym, ◌∙◌, s
 use Rattle.std.specs.String.{string_bytes}
 use Rattle.std.proofs.lemmas.List.{length-map}
 use Rattle.std.proofs.lemmas.Result.{err_from_is_err_and}
-use Rattle.dj_cli.specs.Loading.{IsRead, all_found, found_of}
+use Rattle.dj_cli.specs.Loading.{all_found, found_of}
 use Rattle.dj_cli.specs.Output.{ToldFirst}
 use Rattle.dj_cli.proofs.LoadingLemmas.{name_at}
-use Rattle.dj_cli.proofs.MethodsLemmas.{all_at}
 use Rattle.dj_cli.proofs.TellingLemmas.{stops_telling, told_all, told_more, told_none}
 use Rattle.dj_cli.proofs.telling.tell_files.Goals as goal
 
@@ -15,12 +14,6 @@ loop-place-init g c = record {
   report_falls = omega arith;
   told = told_none (map string_bytes c.args.named.now) (all_found c.args.found.now) (g.T.Sink.taken c.args.text.now) (g.P.Sink.taken c.args.report.now);
 }
-
-pub tell_file-requires : goal.tell_file-requires
-tell_file-requires g c =
-    let found = c.args.found.now in
-    let inside : c.loop-place.place < length found = omega arith in
-    record { read = all_at found_of IsRead found c.loop-place.place c.index-found-place.result c.requires.read inside c.index-found-place.is }
 
 pub returns-in_err-one-clause-stopped : goal.returns-in_err-one-clause-stopped
 returns-in_err-one-clause-stopped g c =

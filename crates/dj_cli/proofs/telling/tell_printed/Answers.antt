@@ -1,7 +1,8 @@
 use Rattle.std.proofs.Common.{◌==◌, length, take, refl, sym, ap, ◌∙◌}
+use Rattle.dj_cli.specs.Output.{printed}
 use Rattle.dj_cli.specs.Pieces.{piece_of}
 use Rattle.dj_cli.proofs.TellingLemmas.{has-line}
-use Rattle.dj_cli.proofs.telling.tell_class.Goals as goal
+use Rattle.dj_cli.proofs.telling.tell_printed.Goals as goal
 
 pub returns-clause-told : goal.returns-clause-told
 returns-clause-told g c =
@@ -9,7 +10,7 @@ returns-clause-told g c =
     let empty = c.is_empty.ensures ∙ ap (λ count. count == 0) (sym c.as_slice.ensures.len ∙ ap length c.as_slice.ensures.value) in
     record {
       piece = piece_of class c.in_ok-piece.piece;
-      is = c.in_ok-piece.ensures.printed;
+      is = printed c.requires.part c.in_ok-piece.ensures.printed;
       text_taken = c.in_default.ensures.puts.ok;
       report_taken = rw c.as_slice.ensures.value at c.in_default-put_lines.ensures.puts.ok;
       refused_is = has-line class c.in_ok-piece.piece.lines.items c.is_empty.result empty;
@@ -24,7 +25,7 @@ returns-in-Err-put_lines-clause-stopped g c =
     let cut = rw c.as_slice.ensures.value at c.in-Err-put_lines.ensures.puts.prefix in
     record {
       piece = piece;
-      is = c.in_ok-piece.ensures.printed;
+      is = printed c.requires.part c.in_ok-piece.ensures.printed;
       text = piece.text;
       lines = take cut.0 piece.lines;
       front = (cut.0, refl, refl);

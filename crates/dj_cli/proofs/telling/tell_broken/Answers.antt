@@ -1,0 +1,21 @@
+use Rattle.std.proofs.Common.{[], ◌++◌, codes, decimal, refl}
+use Rattle.dj_names.specs.Shown.{show_units}
+use Rattle.dj_cli.specs.Report.{Broken, broken_text, line_text, path_units}
+use Rattle.dj_cli.specs.Output.{IsBroken, IsFilePiece}
+use Rattle.dj_cli.proofs.TellingLemmas.{back-some, cuts-line, tells-line}
+use Rattle.dj_cli.proofs.telling.tell_broken.Goals as goal
+
+pub returns-in-Ok-clause-told : goal.returns-in-Ok-clause-told
+returns-in-Ok-clause-told g c = λ text.
+    let path = c.args.path.now in
+    let kind = c.args.kind in
+    let offset = c.args.offset in
+    let some = back-some (show_units (path_units path) ++ codes " broken " ++ broken_text kind ++ codes " " ++ decimal offset) 10 [] in
+    tells-line (IsFilePiece path (IsBroken kind offset)) (line_text (Broken path kind offset)) (refl, refl) text some (rw (c.as_slice.ensures.value, c.in_ok-line.ensures.line) at c.in-Ok.ensures.puts)
+
+pub returns-clause-stopped : goal.returns-clause-stopped
+returns-clause-stopped g c = λ text.
+    let path = c.args.path.now in
+    let kind = c.args.kind in
+    let offset = c.args.offset in
+    cuts-line (IsFilePiece path (IsBroken kind offset)) (line_text (Broken path kind offset)) (refl, refl) text (rw (c.as_slice.ensures.value, c.in_ok-line.ensures.line) at c.in-Err.ensures.puts)
