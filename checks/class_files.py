@@ -120,11 +120,12 @@ BEYOND = [
     (r"^(NoClassDefFoundError|IncompatibleClassChangeError|IllegalAccessError|SecurityException|ClassCircularityError|VerifyError)", "asked once the file is read: other classes, the package"),
     (r"Illegal (field|method|class) name|Illegal name|illegal name", "the spelling of a member's or a class's name (JVMS 4.2.2)"),
     (r"Duplicate (field|method|interface)", "two members or interfaces alike (JVMS 4.5, 4.6, 4.1)"),
-    (r"(Illegal|illegal) .*modifiers", "flags beyond those that are asked here (JVMS 4.1, 4.5, 4.6)"),
+    (r"(Illegal|illegal) .*modifiers|is not static", "flags beyond those that are asked here (JVMS 4.1, 4.5, 4.6)"),
     (r"Invalid (pc|max|code|length|exception|start|end|handler)|Code_attribute|code length|Code length|exception table|LineNumber|LocalVariable|StackMap|stack|fit into locals|Code segment", "inside a Code (JVMS 4.7.3)"),
     (r"InnerClasses|inner_class|EnclosingMethod|SourceFile|Signature|BootstrapMethods|bootstrap|Deprecated|Synthetic|MethodParameters|AnnotationDefault|Annotations|SourceDebugExtension|NestHost|NestMembers|Record|PermittedSubclasses|inner class|argument_index|(outer_class_info|inner_class_info|inner_name)_index|Truncated class file|attribute length|Wrong size", "an attribute that is passed over here (JVMS 4.7)"),
     (r"[Mm]ethod [Hh]andle|method handle|reference_kind|reference kind|\(not a", "what a MethodHandle refers to (JVMS 4.4.8)"),
     (r"does not support constant tag", "kinds of entry that came with version 51 (JVMS 4.4)"),
+    (r"Object cannot implement", "the interfaces of java/lang/Object"),
     (r"has illegal signature", "the descriptor of <init> or <clinit> (JVMS 4.6)"),
     (r"Bad (method|field) name|Bad name|bad method name", "the name in a NameAndType (JVMS 4.4.2)"),
 ]
