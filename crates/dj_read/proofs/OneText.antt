@@ -3,9 +3,9 @@ use Rattle.std.proofs.Common.{◌≡◌, length, sym, ap, ◌∙◌}
 use Rattle.dj_syntax.specs.Trees.{CompilationUnit}
 use Rattle.dj_syntax.specs.UnitText.{unit_text}
 use Rattle.dj_syntax.specs.WellFormed.{IsWellFormed}
-use Rattle.dj_read.specs.Words.{words}
-use Rattle.dj_read.specs.Units.{read_unit}
-use Rattle.dj_read.proofs.UnitsAreRead.{text_is_read}
+use Rattle.dj_parse.specs.Words.{words}
+use Rattle.dj_parse.specs.Units.{read_unit}
+use Rattle.dj_parse.proofs.UnitsAreRead.{text_is_read}
 
 -- well formed units with one text are equal
 pub units_have_one_text : (first second : CompilationUnit) → IsWellFormed first → IsWellFormed second → unit_text first ≡ unit_text second → first ≡ second

@@ -6,8 +6,7 @@ ghost use Rattle.dj_syntax.specs.UnitText.{unit_text};
 ghost use Rattle.dj_syntax.specs.WellFormed.{IsWellFormed};
 ghost use Rattle.dj_read.specs.Faults.{IsReadUnitFault};
 
-use crate::units::unit_from_words;
-use crate::words::Reader;
+use dj_parse::parse_unit;
 use dj_print::unit_bytes;
 use dj_syntax::Unit;
 use dj_well_formed::is_well_formed;
@@ -39,8 +38,7 @@ pub fn read_unit(alloc: Global, bytes: &[u8]) -> Result<Unit, ReadUnitFault>
     ensures read { IfOk result (λ unit. IsWellFormed (view_unit unit) × (unit_text (view_unit unit) ≡ bytes.now)) }
     ensures misread { IfErr result (λ fault. IsReadUnitFault bytes.now fault) }
 {
-    let mut reader = Reader::new(bytes);
-    let unit = unit_from_words(alloc, bytes.len(), &mut reader)?;
+    let unit = parse_unit(alloc, bytes)?;
     if is_spelled(alloc, &unit, bytes)? {
         Ok(unit)
     } else {

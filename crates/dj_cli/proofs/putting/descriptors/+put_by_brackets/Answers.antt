@@ -4,7 +4,7 @@ use Rattle.dj_names.specs.Descriptors.{spell_type}
 use Rattle.dj_names.specs.Shown.{show_units}
 use Rattle.std.proofs.lemmas.Result.{err_from_is_err_and}
 use Rattle.dj_outer.proofs.PutsLemmas.{puts-as, puts-stop, puts-then}
-use Rattle.dj_read.proofs.TypeViews.{view-array}
+use Rattle.dj_parse.proofs.TypeViews.{view-array}
 use Rattle.dj_cli.proofs.putting.descriptors.+put_by_brackets.Goals as goal
 
 pub returns-in_err-put_piece-in-Array : goal.returns-in_err-put_piece-in-Array

@@ -1,0 +1,40 @@
+//! Fields, read from words (JLS 8.3, 9.3).
+
+ghost use Rattle.std.specs.Prelude.{◌≡◌, IfOk};
+ghost use Rattle.dj_names.specs.Types.{view_type};
+ghost use Rattle.dj_syntax.specs.Trees.{view_field};
+ghost use Rattle.dj_parse.specs.Members.{read_field};
+ghost use Rattle.dj_parse.specs.Places.{view_place};
+
+use crate::members::Place;
+use crate::values::read_value;
+use crate::words::Reader;
+use dj_names::{JType, Units};
+use dj_syntax::{FieldText, held_field};
+use std::alloc::{AllocError, Global};
+
+/// A field from behind its name on: its value, where it has one, and the semicolon.
+pub fn read_field(
+    alloc: Global,
+    place: &Place,
+    bits: u16,
+    kind: JType,
+    name: Units,
+    reader: &mut Reader,
+) -> Result<FieldText, AllocError>
+    ensures read { IfOk result (λ field. (view_field field, reader.new) ≡ read_field (view_place place.now) bits (view_type kind) name reader.old) }
+{
+    if reader.is_at(b"=") {
+        reader.advance();
+    }
+    let value = read_value(alloc, reader)?;
+    reader.advance();
+    let mut field = FieldText {
+        flags: bits,
+        kind,
+        name,
+        value,
+    };
+    field.flags = held_field(place.interface, &field);
+    Ok(field)
+}
