@@ -12,16 +12,17 @@ use Rattle.dj_layout.specs.Parts.{times}
 use Rattle.dj_layout.proofs.Loops.{times_more}
 use Rattle.dj_layout.proofs.Laws.{unique, whole_spells, halts_is_no_spelling}
 use Rattle.dj_names.specs.Headers.{Name}
-use Rattle.dj_class.specs.declared.fault.BrokenKind.{BrokenKind}
-use Rattle.dj_class.specs.declared.raw.Attribute.{Attribute}
-use Rattle.dj_class.specs.declared.entry.Entry.{Entry}
-use Rattle.dj_class.specs.SharedParts.{attribute}
-use Rattle.dj_class.specs.PoolFormat.{text_at}
-use Rattle.dj_class.specs.FileFormat.{named, contents, class_indices, LeadsTo, IsExceptions, lawful_in_method}
+use Rattle.dj_pool.specs.declared.fault.BrokenKind.{BrokenKind}
+use Rattle.dj_pool.specs.declared.raw.Attribute.{Attribute}
+use Rattle.dj_pool.specs.declared.entry.Entry.{Entry}
+use Rattle.dj_pool.specs.SharedParts.{attribute}
+use Rattle.dj_pool.specs.PoolFormat.{text_at}
+use Rattle.dj_class.specs.FileFormat.{named, class_indices, LeadsTo, IsExceptions, lawful_in_method}
+use Rattle.dj_pool.specs.Attributes.{contents}
 use Rattle.dj_class.specs.Described.{IsThrown}
 use Rattle.dj_class.specs.FileParts.{HasCode, HasExceptions, HasFound, HasNoCode}
 use Rattle.dj_class.proofs.FileIsExact.{exact-classes}
-use Rattle.dj_class.proofs.AttributeContents.{contents_named, contents_other}
+use Rattle.dj_pool.proofs.AttributeContents.{contents_named, contents_other}
 
 -- ---- the content of an Exceptions
 

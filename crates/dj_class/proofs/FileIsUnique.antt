@@ -11,13 +11,14 @@ use Rattle.dj_names.specs.Headers.{Name}
 use Rattle.dj_names.specs.Types.{JType, Descriptor, Field}
 use Rattle.dj_names.specs.Descriptors.{SpellsDescriptor}
 use Rattle.dj_names.proofs.DescriptorLemmas.{one_spelled}
-use Rattle.dj_class.specs.declared.fault.BrokenKind.{BrokenKind}
-use Rattle.dj_class.specs.declared.fault.BrokenKind.TheVariants as kind
-use Rattle.dj_class.specs.SharedParts.{RawMember, u2, counted}
-use Rattle.dj_class.specs.declared.entry.Entry.{Entry}
+use Rattle.dj_pool.specs.declared.fault.BrokenKind.{BrokenKind}
+use Rattle.dj_pool.specs.declared.fault.BrokenKind.TheVariants as kind
+use Rattle.dj_class.specs.Members.{RawMember}
+use Rattle.dj_pool.specs.SharedParts.{u2, counted}
+use Rattle.dj_pool.specs.declared.entry.Entry.{Entry}
 use Rattle.dj_class.specs.Described.{FieldOf, MethodOf, ClassOf, IsConstant, IsThrown, DescribesField, DescribesMethod, DescribesClass, SpellsClass, HasFault}
 use Rattle.dj_class.specs.FileFormat.{Raw, LeadsTo, file, sound}
-use Rattle.dj_class.proofs.SharedAreExact.{exact-u2, exact-counted}
+use Rattle.dj_pool.proofs.SharedAreExact.{exact-u2, exact-counted}
 use Rattle.dj_class.proofs.FileIsExact.{exact-file, exact-sound}
 
 -- ---- one value

@@ -5,9 +5,9 @@ use Rattle.dj_layout.specs.declared.fault.Stop.{Stop}
 use Rattle.dj_layout.specs.declared.fault.Stop.TheVariants as stop
 use Rattle.dj_layout.specs.Layout.{SpellsSome, Stops}
 use Rattle.dj_layout.proofs.Laws.{unique, whole_spells}
-use Rattle.dj_class.specs.declared.fault.BrokenKind.{BrokenKind}
+use Rattle.dj_pool.specs.declared.fault.BrokenKind.{BrokenKind}
 use Rattle.dj_class.specs.declared.fault.ClassFault.{ClassFault}
-use Rattle.dj_class.specs.declared.entry.Entry.{Entry}
+use Rattle.dj_pool.specs.declared.entry.Entry.{Entry}
 use Rattle.dj_class.specs.declared.front.Front.{Front}
 use Rattle.dj_class.specs.declared.own.OwnNames.{OwnNames}
 use Rattle.dj_class.specs.FileFormat.{Raw, file, sound}

@@ -5,11 +5,13 @@ use Rattle.std.proofs.lemmas.List.Elements.{All-nil}
 use Rattle.dj_layout.specs.Layout.{Layout, Spells, SpellsSome, SpellsAny}
 use Rattle.dj_layout.specs.Parts.{times}
 use Rattle.dj_names.specs.Headers.{Name}
-use Rattle.dj_class.specs.declared.fault.BrokenKind.{BrokenKind}
-use Rattle.dj_class.specs.declared.entry.Entry.{Entry}
+use Rattle.dj_pool.specs.declared.fault.BrokenKind.{BrokenKind}
+use Rattle.dj_pool.specs.declared.entry.Entry.{Entry}
 use Rattle.dj_class.specs.declared.front.Front.{Front}
 use Rattle.dj_class.specs.declared.own.OwnNames.{OwnNames}
-use Rattle.dj_class.specs.SharedParts.{u2, counted, attribute, member, magic}
+use Rattle.dj_pool.specs.SharedParts.{u2, counted, attribute}
+use Rattle.dj_class.specs.Members.{member}
+use Rattle.dj_class.specs.FileFormat.{magic}
 use Rattle.dj_class.specs.Described.{FieldOf, MethodOf, DescribesField, DescribesMethod}
 use Rattle.dj_class.specs.FileFormat.{LeadsTo, named, field, method, front, class_indices, lawful_own, lawful_listed, lawful_rest, sound}
 use Rattle.dj_class.specs.FileParts.{MembersOf, DescribesListed, DescribesRest, DescribesOwn}

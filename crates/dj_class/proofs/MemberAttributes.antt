@@ -2,13 +2,14 @@
 use Rattle.std.proofs.Common.{◌≡◌, ℕ, List, [], ◌∷◌, ◌++◌, Option, Some, None, false, is_some, codes, ap, ◌∙◌}
 use Rattle.dj_layout.specs.Layout.{Spells, SpellsSome}
 use Rattle.dj_names.specs.declared.members.Constant.{Constant}
-use Rattle.dj_class.specs.declared.raw.Attribute.{Attribute}
-use Rattle.dj_class.specs.declared.entry.Entry.{Entry}
-use Rattle.dj_class.specs.PoolFormat.{text_at}
-use Rattle.dj_class.specs.FileFormat.{named, contents, index_of, IsConstantValue, lawful_in_field}
+use Rattle.dj_pool.specs.declared.raw.Attribute.{Attribute}
+use Rattle.dj_pool.specs.declared.entry.Entry.{Entry}
+use Rattle.dj_pool.specs.PoolFormat.{text_at}
+use Rattle.dj_class.specs.FileFormat.{named, index_of, IsConstantValue, lawful_in_field}
+use Rattle.dj_pool.specs.Attributes.{contents}
 use Rattle.dj_class.specs.Described.{IsConstant}
 use Rattle.dj_class.specs.FileParts.{HasConstantIndex, constant_at}
-use Rattle.dj_class.proofs.AttributeContents.{contents_named, contents_other}
+use Rattle.dj_pool.proofs.AttributeContents.{contents_named, contents_other}
 
 -- the same contents, the same constant
 same_contents : (pool : List Entry) (before after : List Attribute) (found : Option ℕ) → contents pool (codes "ConstantValue") after ≡ contents pool (codes "ConstantValue") before

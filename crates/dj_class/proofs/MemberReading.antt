@@ -8,12 +8,13 @@ use Rattle.dj_names.specs.Headers.{Name}
 use Rattle.dj_names.specs.Types.{JType, Descriptor, Field}
 use Rattle.dj_names.specs.Descriptors.{SpellsDescriptor}
 use Rattle.std.specs.Prelude.{codes}
-use Rattle.dj_class.specs.declared.fault.BrokenKind.TheVariants as kind
-use Rattle.dj_class.specs.declared.raw.Attribute.{Attribute}
-use Rattle.dj_class.specs.declared.entry.Entry.{Entry}
-use Rattle.dj_class.specs.SharedParts.{u2, counted, attribute}
-use Rattle.dj_class.specs.PoolFormat.{text_at, IsFieldText, IsMethodText}
-use Rattle.dj_class.specs.FileFormat.{HasFieldFlags, HasOneAccess, member_name, contents, counted_in_turn, lawful_in_field, method_attributes, field, method}
+use Rattle.dj_pool.specs.declared.fault.BrokenKind.TheVariants as kind
+use Rattle.dj_pool.specs.declared.raw.Attribute.{Attribute}
+use Rattle.dj_pool.specs.declared.entry.Entry.{Entry}
+use Rattle.dj_pool.specs.SharedParts.{u2, counted, attribute}
+use Rattle.dj_pool.specs.PoolFormat.{text_at, IsFieldText, IsMethodText}
+use Rattle.dj_class.specs.FileFormat.{HasFieldFlags, HasOneAccess, member_name, counted_in_turn, lawful_in_field, method_attributes, field, method}
+use Rattle.dj_pool.specs.Attributes.{contents}
 use Rattle.dj_class.specs.Described.{IsConstant, IsThrown, DescribesField, DescribesMethod}
 use Rattle.dj_class.specs.FileParts.{HasExceptions, HasFound}
 use Rattle.dj_class.proofs.RestParts.{four_texts}

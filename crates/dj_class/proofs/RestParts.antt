@@ -5,11 +5,13 @@ use Rattle.std.proofs.lemmas.List.{append-nil}
 use Rattle.dj_layout.specs.Layout.{Layout, Spells}
 use Rattle.dj_layout.specs.Parts.{run, number}
 use Rattle.dj_layout.specs.Passes.{asked}
-use Rattle.dj_class.specs.declared.fault.BrokenKind.{BrokenKind}
-use Rattle.dj_class.specs.declared.fault.BrokenKind.TheVariants as kind
-use Rattle.dj_class.specs.declared.raw.Attribute.{Attribute}
-use Rattle.dj_class.specs.SharedParts.{RawMember, u2, counted, attribute, member, magic}
-use Rattle.dj_class.specs.declared.entry.Entry.{Entry}
+use Rattle.dj_pool.specs.declared.fault.BrokenKind.{BrokenKind}
+use Rattle.dj_pool.specs.declared.fault.BrokenKind.TheVariants as kind
+use Rattle.dj_pool.specs.declared.raw.Attribute.{Attribute}
+use Rattle.dj_class.specs.Members.{RawMember, member}
+use Rattle.dj_pool.specs.SharedParts.{u2, counted, attribute}
+use Rattle.dj_class.specs.FileFormat.{magic}
+use Rattle.dj_pool.specs.declared.entry.Entry.{Entry}
 use Rattle.dj_class.specs.declared.front.Front.{Front}
 use Rattle.dj_class.specs.FileFormat.{Own, Listed, Rest, plain_own, plain_listed, rest_of, file_of, HasClassFlags, IsClassIndex, IsSuperIndex, lawful_own}
 

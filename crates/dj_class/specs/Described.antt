@@ -11,13 +11,15 @@ use Rattle.dj_names.specs.declared.members.Constant.TheVariants as constant
 use Rattle.dj_names.specs.Headers.{Name}
 use Rattle.dj_names.specs.Types.{JType, Descriptor, Field}
 use Rattle.dj_names.specs.Descriptors.{SpellsDescriptor}
-use Rattle.dj_class.specs.declared.fault.BrokenKind.{BrokenKind}
-use Rattle.dj_class.specs.declared.fault.BrokenKind.TheVariants as kind
-use Rattle.dj_class.specs.SharedParts.{RawMember, u2, counted}
-use Rattle.dj_class.specs.declared.entry.Entry.{Entry}
-use Rattle.dj_class.specs.declared.entry.Entry.TheVariants as entry
-use Rattle.dj_class.specs.PoolFormat.{text_at, class_at}
-use Rattle.dj_class.specs.FileFormat.{Raw, LeadsTo, index_of, contents, file, sound}
+use Rattle.dj_pool.specs.declared.fault.BrokenKind.{BrokenKind}
+use Rattle.dj_pool.specs.declared.fault.BrokenKind.TheVariants as kind
+use Rattle.dj_class.specs.Members.{RawMember}
+use Rattle.dj_pool.specs.SharedParts.{u2, counted}
+use Rattle.dj_pool.specs.declared.entry.Entry.{Entry}
+use Rattle.dj_pool.specs.declared.entry.Entry.TheVariants as entry
+use Rattle.dj_pool.specs.PoolFormat.{text_at, class_at}
+use Rattle.dj_class.specs.FileFormat.{Raw, LeadsTo, index_of, file, sound}
+use Rattle.dj_pool.specs.Attributes.{contents}
 
 -- a field, its name by its units
 pub record FieldOf : Type 0 where

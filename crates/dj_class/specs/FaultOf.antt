@@ -2,7 +2,7 @@
 use Rattle.std.specs.Prelude.{◌≡◌, ℕ, ◌-◌, ◌^◌, min, alloc_error}
 use Rattle.dj_layout.specs.declared.fault.Stop.{Stop}
 use Rattle.dj_layout.specs.declared.fault.Stop.TheVariants as stop
-use Rattle.dj_class.specs.declared.fault.BrokenKind.{BrokenKind}
+use Rattle.dj_pool.specs.declared.fault.BrokenKind.{BrokenKind}
 use Rattle.dj_class.specs.declared.fault.ClassFault.{ClassFault}
 use Rattle.dj_class.specs.declared.fault.ClassFault.TheVariants as fault
 

@@ -1,22 +1,24 @@
 -- A class file as layouts of the same bytes: its parts front to back, and what is asked of them (JVMS 4.1, 4.5 to 4.7).
-use Rattle.std.specs.Prelude.{◌≡◌, ◌⊎◌, ◌↔◌, ℕ, List, [], length, map, filter, Bool, false, ◌&&◌, ◌==◌, nat_le, if◌then◌else◌, Option, Some, None, IsSome, IsSomeAnd, IsBitSet, codes}
+use Rattle.std.specs.Prelude.{◌≡◌, ◌⊎◌, ◌↔◌, ℕ, List, [], length, ◌&&◌, ◌==◌, nat_le, if◌then◌else◌, Option, Some, None, IsSome, IsSomeAnd, IsBitSet, codes}
 use Rattle.std.specs.Int.{w16, from_be_bytes}
 use Rattle.std.specs.Str.{bytes_eq}
 use Rattle.dj_layout.specs.Layout.{Layout}
-use Rattle.dj_layout.specs.Parts.{exactly, headed, tested}
+use Rattle.dj_layout.specs.Parts.{number, exactly, headed, tested}
 use Rattle.dj_layout.specs.Passes.{asked, again, sequence}
 use Rattle.dj_layout.specs.Whole.{IsWhole}
 use Rattle.dj_names.specs.Types.{JType, Boolean, Byte, Char, Short, Int, Long, Float, Double, Class, Array, Field}
 use Rattle.dj_names.specs.Assignable.{object_name}
 use Rattle.dj_names.specs.ClassNames.{IsClassName}
 use Rattle.dj_names.specs.Descriptors.{SpellsDescriptor}
-use Rattle.dj_class.specs.declared.fault.BrokenKind.{BrokenKind}
-use Rattle.dj_class.specs.declared.fault.BrokenKind.TheVariants as kind
-use Rattle.dj_class.specs.declared.raw.Attribute.{Attribute}
-use Rattle.dj_class.specs.SharedParts.{RawMember, u2, counted, attribute, member, magic}
-use Rattle.dj_class.specs.declared.entry.Entry.{Entry}
+use Rattle.dj_pool.specs.declared.fault.BrokenKind.{BrokenKind}
+use Rattle.dj_pool.specs.declared.fault.BrokenKind.TheVariants as kind
+use Rattle.dj_pool.specs.declared.raw.Attribute.{Attribute}
+use Rattle.dj_class.specs.Members.{RawMember, member}
+use Rattle.dj_pool.specs.SharedParts.{u2, counted, attribute}
+use Rattle.dj_pool.specs.declared.entry.Entry.{Entry}
 use Rattle.dj_class.specs.declared.front.Front.{Front}
-use Rattle.dj_class.specs.PoolFormat.{HasTag, IsFieldText, IsMethodText, text_at, class_at, pool}
+use Rattle.dj_pool.specs.Attributes.{contents}
+use Rattle.dj_pool.specs.PoolFormat.{HasTag, IsFieldText, IsMethodText, text_at, class_at, pool}
 
 -- the flags of a class, and the indices of the class and its superclass
 pub record Own : Type 0 where
@@ -42,6 +44,10 @@ pub record Raw : Type 0 where
   pub rest : Rest
 
 -- ---- the first pass: the layout alone
+
+-- the number that every class file begins with, 0xCAFEBABE
+abbrev pub magic : Layout BrokenKind ℕ
+magic = tested (number 4 kind.Short) (λ x. x == 3405691582) kind.Magic
 
 -- a major version from `oldest` to 52 (JVMS table 4.1-A)
 abbrev pub major : ℕ → Layout BrokenKind ℕ
@@ -130,16 +136,6 @@ pub record HasFieldFlags (flags : ℕ) : Type 0 where
 -- there is a text at the index
 abbrev pub IsTextIndex : List Entry → ℕ → Type 0
 IsTextIndex pool index = IsSome (text_at pool index)
-
--- there are characters, and they are these
-abbrev pub is_name : List ℕ → Option (List ℕ) → Bool
-is_name name None = false
-is_name name (Some units) = bytes_eq units name
-
--- the contents of the attributes of this name, in file order
-abbrev pub contents : List Entry → List ℕ → List Attribute → List (List ℕ)
-contents pool name attributes =
-    map (λ a. a.content) (filter (λ a. is_name name (text_at pool a.name)) attributes)
 
 -- an attribute whose name is a text
 abbrev pub named : List Entry → Layout BrokenKind Attribute

@@ -5,17 +5,18 @@ use Rattle.std.specs.Option.{option_and_then, option_to_list}
 use Rattle.dj_layout.specs.declared.fault.Stop.{Stop}
 use Rattle.dj_layout.specs.Layout.{Stops}
 use Rattle.dj_layout.specs.Whole.{IsWhole, FirstFault}
-use Rattle.dj_class.specs.declared.fault.BrokenKind.{BrokenKind}
-use Rattle.dj_class.specs.declared.fault.BrokenKind.TheVariants as kind
+use Rattle.dj_pool.specs.declared.fault.BrokenKind.{BrokenKind}
+use Rattle.dj_pool.specs.declared.fault.BrokenKind.TheVariants as kind
 use Rattle.dj_class.specs.declared.front.Front.{Front}
-use Rattle.dj_class.specs.declared.raw.Attribute.{Attribute}
-use Rattle.dj_class.specs.declared.entry.Entry.{Entry}
+use Rattle.dj_pool.specs.declared.raw.Attribute.{Attribute}
+use Rattle.dj_pool.specs.declared.entry.Entry.{Entry}
 use Rattle.dj_names.specs.declared.members.Constant.{Constant}
-use Rattle.dj_class.specs.FileFormat.{Own, Listed, Rest, Raw, LeadsTo, file, contents, index_of}
+use Rattle.dj_class.specs.FileFormat.{Own, Listed, Rest, Raw, LeadsTo, file, index_of}
+use Rattle.dj_pool.specs.Attributes.{contents}
 use Rattle.dj_class.specs.declared.own.OwnNames.{OwnNames}
 use Rattle.dj_class.specs.declared.listed.Members.{Members}
 use Rattle.dj_class.specs.declared.class.ClassFile.{ClassFile}
-use Rattle.dj_class.specs.PoolFormat.{class_at}
+use Rattle.dj_pool.specs.PoolFormat.{class_at}
 use Rattle.dj_class.specs.Described.{FieldOf, MethodOf, constant_of, IsThrown, DescribesField, DescribesMethod, SpellsClass, HasFault}
 use Rattle.dj_class.specs.Views.{view_field, view_method, view_class}
 use Rattle.dj_names.specs.Headers.{Name}

@@ -3,7 +3,7 @@ use Rattle.std.specs.Prelude.{◌≡◌, ℕ, List, map, Result, Ok, Err, ⊤}
 use Rattle.dj_layout.specs.declared.fault.Fault.{Fault}
 use Rattle.dj_names.specs.declared.members.Field as code_field
 use Rattle.dj_names.specs.Types.{view_type, view_descriptor}
-use Rattle.dj_class.specs.declared.fault.BrokenKind.{BrokenKind}
+use Rattle.dj_pool.specs.declared.fault.BrokenKind.{BrokenKind}
 use Rattle.dj_class.specs.declared.fault.ClassFault.{ClassFault}
 use Rattle.dj_class.specs.declared.fault.ClassFault.TheVariants as fault
 use Rattle.dj_class.specs.declared.method.Method as code_method

@@ -3,18 +3,15 @@
 ghost use Rattle.std.specs.Prelude.{◌≡◌, ◌≢◌, ◌↔◌, MatchBool, [], ◌∷◌, ◌++◌, Some, IsTrue, IfOk, IfSome, IfNone, length};
 ghost use Rattle.dj_layout.specs.Layout.{Reads};
 ghost use Rattle.dj_names.specs.Types.{view_type};
-ghost use Rattle.dj_class.specs.PoolFormat.{text_at};
-ghost use Rattle.dj_class.specs.FileFormat.{named, contents, constant_tag, index_of, IsConstantIndex, IsConstantValue};
+ghost use Rattle.dj_pool.specs.PoolFormat.{text_at};
+ghost use Rattle.dj_class.specs.FileFormat.{named, constant_tag, index_of, IsConstantIndex, IsConstantValue};
+ghost use Rattle.dj_pool.specs.Attributes.{contents};
 ghost use Rattle.dj_class.specs.Described.{constant_of};
 ghost use Rattle.dj_class.specs.FileParts.{constant_at};
 
-use crate::entry::Entry;
-use crate::fault::BrokenKind;
-use crate::pool::Pool;
-use crate::raw::{Attribute, attribute_at};
-use crate::texts::{has_tag, is_text};
 use dj_layout::{Stop, fault_at};
 use dj_names::{Constant, Descriptor, JType, is_word};
+use dj_pool::{Attribute, BrokenKind, Entry, Pool, attribute_at, has_tag, is_text};
 use std::alloc::{AllocError, Global};
 
 /// An attribute whose name is a text.
@@ -30,28 +27,6 @@ pub fn named_at<'a>(
         return Err(Stop::Fault(fault_at(bytes, end, BrokenKind::Index)));
     }
     Ok(((name, content), rest))
-}
-
-/// Whether the text at an index is this name.
-pub fn is_name(pool: &Pool, index: u16, name: &str) -> bool
-    ensures exact { IsTrue result ↔ (text_at pool.now index ≡ Some name.now) }
-{
-    match pool.text_at(index) {
-        Some(units) => is_word(units.as_slice(), name),
-        None => false,
-    }
-}
-
-/// Whether there is an attribute of this name.
-pub fn has_attribute(pool: &Pool, attributes: &[Attribute], name: &str) -> bool
-    ensures exact { MatchBool result (contents pool.now name.now attributes.now ≢ []) (contents pool.now name.now attributes.now ≡ []) }
-{
-    for attribute in attributes {
-        if is_name(pool, attribute.name, name) {
-            return true;
-        }
-    }
-    false
 }
 
 /// The tag that the constant of a field of this type has, where it may have one.

@@ -5,22 +5,20 @@ ghost use Rattle.std.specs.Option.{option_copied};
 ghost use Rattle.dj_layout.specs.Layout.{ReadsAs, Skips};
 ghost use Rattle.dj_layout.specs.Parts.{times};
 ghost use Rattle.dj_layout.specs.Passes.{asked, sequence};
-ghost use Rattle.dj_class.specs.declared.raw.Attribute as spec;
-ghost use Rattle.dj_class.specs.declared.fault.BrokenKind.TheVariants.{Attribute};
-ghost use Rattle.dj_class.specs.SharedParts.{counted, attribute};
-ghost use Rattle.dj_class.specs.PoolFormat.{text_at};
+ghost use Rattle.dj_pool.specs.declared.raw.Attribute as spec;
+ghost use Rattle.dj_pool.specs.declared.fault.BrokenKind.TheVariants.{Attribute};
+ghost use Rattle.dj_pool.specs.SharedParts.{counted, attribute};
+ghost use Rattle.dj_pool.specs.PoolFormat.{text_at};
 ghost use Rattle.dj_class.specs.FileFormat.{lawful_in_method, counted_in_turn, method_attributes, HasBodyAs, IsExceptions};
 ghost use Rattle.dj_class.specs.Described.{IsThrown};
 ghost use Rattle.dj_class.specs.FileParts.{HasFound, HasNoCode};
 
-use crate::attributes::{is_name, named_at};
-use crate::fault::BrokenKind;
+use crate::attributes::named_at;
 use crate::flags::are_bodiless;
 use crate::own::classes_at;
-use crate::pool::Pool;
-use crate::raw::attribute_at;
 use dj_layout::{Stop, fault_at, u16_at};
 use dj_names::{ClassName, Items};
+use dj_pool::{BrokenKind, Pool, attribute_at, is_name};
 use std::alloc::{AllocError, Global};
 
 /// The content of a Code, and the classes of an Exceptions.

@@ -2,19 +2,19 @@
 
 ghost use Rattle.std.specs.Prelude.{◌≡◌, IfOk, IfErr};
 ghost use Rattle.dj_layout.specs.declared.fault.Fault.{Fault};
-ghost use Rattle.dj_class.specs.declared.fault.BrokenKind as spec;
+ghost use Rattle.dj_pool.specs.declared.fault.BrokenKind as spec;
 ghost use Rattle.dj_class.specs.Described.{ClassOf, SpellsClass, HasFault};
 ghost use Rattle.dj_class.specs.Views.{view_class, IsBroken, GivesClass, GivesFault};
 ghost use Rattle.dj_class.specs.FileParts.{ReadsFile};
 
 use crate::copies::{copy_fields, copy_methods};
-use crate::fault::{BrokenKind, ClassFault, fault_of};
+use crate::fault::{ClassFault, fault_of};
 use crate::front::read_front;
 use crate::listed::sound_at;
 use crate::method::Method;
-use crate::pool::Pool;
 use dj_layout::Stop;
 use dj_names::{ClassName, Field, Items, copy_names};
+use dj_pool::{BrokenKind, Pool};
 use std::alloc::{AllocError, Global};
 
 /// A class as its file describes it.

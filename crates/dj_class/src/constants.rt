@@ -3,18 +3,18 @@
 ghost use Rattle.std.specs.Prelude.{◌≡◌, List, [], ◌∷◌, ◌++◌, codes, length, ◌==◌};
 ghost use Rattle.dj_layout.specs.Layout.{ReadsAs};
 ghost use Rattle.dj_layout.specs.Passes.{sequence};
-ghost use Rattle.dj_class.specs.declared.raw.Attribute as spec;
-ghost use Rattle.dj_class.specs.declared.fault.BrokenKind.TheVariants.{Attribute};
-ghost use Rattle.dj_class.specs.SharedParts.{attribute};
-ghost use Rattle.dj_class.specs.FileFormat.{contents, lawful_in_field, counted_in_turn};
+ghost use Rattle.dj_pool.specs.declared.raw.Attribute as spec;
+ghost use Rattle.dj_pool.specs.declared.fault.BrokenKind.TheVariants.{Attribute};
+ghost use Rattle.dj_pool.specs.SharedParts.{attribute};
+ghost use Rattle.dj_pool.specs.Attributes.{contents};
+ghost use Rattle.dj_class.specs.FileFormat.{lawful_in_field, counted_in_turn};
 ghost use Rattle.dj_class.specs.Described.{IsConstant};
 ghost use Rattle.dj_class.specs.FileParts.{HasConstantIndex};
 
-use crate::attributes::{constant_at, constant_index, is_name, named_at};
-use crate::fault::BrokenKind;
-use crate::pool::Pool;
+use crate::attributes::{constant_at, constant_index, named_at};
 use dj_layout::{Stop, fault_at, u16_at};
 use dj_names::Constant;
+use dj_pool::{BrokenKind, Pool, is_name};
 use std::alloc::Global;
 
 /// An attribute of a field, behind others of which one may have been a ConstantValue with this

@@ -2,21 +2,9 @@
 
 ghost use Rattle.std.specs.Prelude.{◌≡◌, IfOk};
 
-use crate::entry::Entry;
 use crate::method::Method;
 use dj_names::{Field, Items};
 use std::alloc::{AllocError, Global};
-
-/// Equal entries, in order.
-pub fn copy_entries(alloc: Global, entries: &[Entry]) -> Result<Items<Entry>, AllocError>
-    ensures equal { IfOk result (λ copy. copy ≡ entries.now) }
-{
-    let mut copy = Items::new(alloc);
-    for entry in entries {
-        copy.push(entry.copy(alloc)?)?;
-    }
-    Ok(copy)
-}
 
 /// Equal fields, in order.
 pub fn copy_fields(alloc: Global, fields: &[Field]) -> Result<Items<Field>, AllocError>

@@ -4,23 +4,9 @@ ghost use Rattle.std.specs.Prelude.{◌≡◌};
 ghost use Rattle.dj_class.specs.FaultOf.{IsFaultOf, shown_place};
 
 use dj_layout::Stop;
+use dj_pool::BrokenKind;
 use std::alloc::AllocError;
 use thiserror::Error;
-
-/// What may be wrong with a class file.
-#[derive(Clone, Copy, Debug, PartialEq, Eq)]
-pub enum BrokenKind {
-    Short,
-    Magic,
-    Version,
-    Tag,
-    Index,
-    Units,
-    Descriptor,
-    Trailing,
-    Attribute,
-    Flags,
-}
 
 /// Bytes that are no class file, with the offset of the first fault; or no memory.
 #[derive(Debug, Drop, Error)]

@@ -3,18 +3,15 @@
 ghost use Rattle.std.specs.Prelude.{◌≡◌, ◌≤◌, Result, Ok, Err, None};
 ghost use Rattle.std.specs.Option.{option_copied};
 ghost use Rattle.dj_layout.specs.Layout.{Reads, ReadsAs};
-ghost use Rattle.dj_class.specs.declared.fault.BrokenKind.TheVariants.{Trailing};
-ghost use Rattle.dj_class.specs.SharedParts.{magic};
+ghost use Rattle.dj_pool.specs.declared.fault.BrokenKind.TheVariants.{Trailing};
+ghost use Rattle.dj_class.specs.FileFormat.{magic};
 ghost use Rattle.dj_class.specs.FileFormat.{major, front, file};
 ghost use Rattle.dj_class.specs.FileParts.{ReadsFront};
 
-use crate::entry::Entry;
-use crate::fault::BrokenKind;
-use crate::pool::Pool;
-use crate::pools::pool_at;
 use crate::skipped::skip_rest;
 use dj_layout::{Stop, fault_at, u16_at, u32_at};
 use dj_names::Items;
+use dj_pool::{BrokenKind, Entry, Pool, pool_at};
 use std::alloc::Global;
 
 const MAGIC: u32 = 0xcafe_babe;

@@ -4,21 +4,20 @@ ghost use Rattle.std.specs.Prelude.{◌≡◌, map, Some};
 ghost use Rattle.std.specs.List.{AllZip};
 ghost use Rattle.dj_layout.specs.Layout.{ReadsAs, Skips};
 ghost use Rattle.dj_layout.specs.Parts.{times};
-ghost use Rattle.dj_class.specs.SharedParts.{counted};
+ghost use Rattle.dj_pool.specs.SharedParts.{counted};
 ghost use Rattle.dj_class.specs.Views.{view_field, view_method};
 ghost use Rattle.dj_class.specs.FileFormat.{named, front, field, method, lawful_listed, lawful_rest, sound};
 ghost use Rattle.dj_class.specs.Described.{DescribesField, DescribesMethod};
 ghost use Rattle.dj_class.specs.FileParts.{DescribesListed, DescribesRest, view_members};
 
 use crate::attributes::named_at;
-use crate::fault::BrokenKind;
 use crate::front::{front_at, magic_at};
 use crate::members::{field_at, method_at};
 use crate::method::Method;
 use crate::own::{OwnNames, classes_at, own_at};
-use crate::pool::Pool;
 use dj_layout::{Stop, u16_at};
 use dj_names::{ClassName, Field, Items};
+use dj_pool::{BrokenKind, Pool};
 use std::alloc::Global;
 
 /// The interfaces, fields and methods of a class.

@@ -7,22 +7,20 @@ ghost use Rattle.dj_layout.specs.Passes.{asked};
 ghost use Rattle.dj_names.specs.Types as types;
 ghost use Rattle.dj_names.specs.Types.{view_type, view_descriptor};
 ghost use Rattle.dj_names.specs.Descriptors.{SpellsDescriptor};
-ghost use Rattle.dj_class.specs.declared.fault.BrokenKind.TheVariants as kind;
-ghost use Rattle.dj_class.specs.SharedParts.{u2};
+ghost use Rattle.dj_pool.specs.declared.fault.BrokenKind.TheVariants as kind;
+ghost use Rattle.dj_pool.specs.SharedParts.{u2};
 ghost use Rattle.dj_class.specs.Views.{view_field, view_method};
-ghost use Rattle.dj_class.specs.PoolFormat.{text_at, IsFieldText, IsMethodText};
+ghost use Rattle.dj_pool.specs.PoolFormat.{text_at, IsFieldText, IsMethodText};
 ghost use Rattle.dj_class.specs.FileFormat.{HasFieldFlags, HasOneAccess, member_name, field, method};
 ghost use Rattle.dj_class.specs.Described.{DescribesField, DescribesMethod};
 
 use crate::bodies::method_attributes_at;
 use crate::constants::field_attributes_at;
-use crate::fault::BrokenKind;
 use crate::flags::{are_field_flags, are_one_access};
 use crate::method::Method;
-use crate::pool::Pool;
-use crate::texts::is_method_text;
 use dj_layout::{Stop, fault_at, u16_at};
 use dj_names::{ClassName, Descriptor, Field, Items, JType, Units};
+use dj_pool::{BrokenKind, Pool, is_method_text};
 use std::alloc::{AllocError, Global};
 
 /// The flags of a field.

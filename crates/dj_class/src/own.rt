@@ -7,18 +7,16 @@ ghost use Rattle.dj_layout.specs.Parts.{times};
 ghost use Rattle.dj_layout.specs.Passes.{asked};
 ghost use Rattle.dj_names.specs.Assignable.{object_name};
 ghost use Rattle.dj_names.specs.ClassNames.{IsClassName};
-ghost use Rattle.dj_class.specs.declared.fault.BrokenKind.TheVariants.{Flags, Index};
-ghost use Rattle.dj_class.specs.SharedParts.{u2};
-ghost use Rattle.dj_class.specs.PoolFormat.{class_at};
+ghost use Rattle.dj_pool.specs.declared.fault.BrokenKind.TheVariants.{Flags, Index};
+ghost use Rattle.dj_pool.specs.SharedParts.{u2};
+ghost use Rattle.dj_pool.specs.PoolFormat.{class_at};
 ghost use Rattle.dj_class.specs.FileFormat.{HasClassFlags, IsClassIndex, LeadsTo, IsSuperIndex, class_indices, lawful_own};
 ghost use Rattle.dj_class.specs.FileParts.{DescribesOwn};
 
-use crate::fault::BrokenKind;
 use crate::flags::{are_class_flags, is_interface};
-use crate::pool::Pool;
-use crate::texts::class_text_at;
 use dj_layout::{Stop, fault_at, u16_at};
 use dj_names::{ClassName, Items, Units, is_word};
+use dj_pool::{BrokenKind, Pool, class_text_at};
 use std::alloc::{AllocError, Global};
 
 /// The flags of a class, and the names of the class and its superclass.

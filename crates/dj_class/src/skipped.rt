@@ -2,11 +2,12 @@
 
 ghost use Rattle.dj_layout.specs.Layout.{Skips};
 ghost use Rattle.dj_layout.specs.Parts.{times};
-ghost use Rattle.dj_class.specs.SharedParts.{u2, counted, attribute, member};
+ghost use Rattle.dj_pool.specs.SharedParts.{u2, counted, attribute};
+ghost use Rattle.dj_class.specs.Members.{member};
 ghost use Rattle.dj_class.specs.FileFormat.{plain_own, plain_listed, plain_rest};
 
-use crate::fault::BrokenKind;
 use dj_layout::{Stop, run_at, u16_at, u32_at};
+use dj_pool::BrokenKind;
 
 /// An attribute.
 fn skip_attribute(bytes: &[u8], end: usize) -> Result<&[u8], Stop<BrokenKind>>

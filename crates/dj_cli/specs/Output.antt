@@ -6,7 +6,7 @@ use Rattle.dj_outer.specs.Files.{file_named}
 use Rattle.dj_layout.specs.declared.fault.Fault.{Fault}
 use Rattle.dj_names.specs.declared.header.Header.{Header}
 use Rattle.dj_names.specs.declared.members.ClassMembers.{ClassMembers}
-use Rattle.dj_class.specs.declared.fault.BrokenKind.{BrokenKind}
+use Rattle.dj_pool.specs.declared.fault.BrokenKind.{BrokenKind}
 use Rattle.dj_class.specs.Described.{ClassOf, MethodOf, SpellsClass, HasFault}
 use Rattle.dj_class.specs.FaultOf.{shown_place}
 use Rattle.dj_syntax.specs.Trees.{Exp, Body, CompilationUnit}

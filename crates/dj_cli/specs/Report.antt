@@ -7,8 +7,8 @@ use Rattle.std.specs.Fmt.{decimal}
 use Rattle.dj_names.specs.Types.{Descriptor}
 use Rattle.dj_names.specs.Descriptors.{spell_descriptor}
 use Rattle.dj_names.specs.Shown.{show_units}
-use Rattle.dj_class.specs.declared.fault.BrokenKind.{BrokenKind}
-use Rattle.dj_class.specs.declared.fault.BrokenKind.TheVariants as broken
+use Rattle.dj_pool.specs.declared.fault.BrokenKind.{BrokenKind}
+use Rattle.dj_pool.specs.declared.fault.BrokenKind.TheVariants as broken
 use Rattle.dj_cli.specs.declared.status.UsageKind.{UsageKind}
 use Rattle.dj_cli.specs.declared.status.UsageKind.TheVariants as kind
 

@@ -2,8 +2,8 @@
 use Rattle.std.proofs.Common.{length}
 use Rattle.dj_layout.specs.Exact.{IsExact}
 use Rattle.dj_layout.proofs.PartsAreExact.{exact-number, exact-run, exact-exactly, exact-headed, exact-tested}
-use Rattle.dj_class.specs.declared.fault.BrokenKind.TheVariants as kind
-use Rattle.dj_class.proofs.SharedAreExact.{exact-u2, exact-counted, exact-attributes}
+use Rattle.dj_pool.specs.declared.fault.BrokenKind.TheVariants as kind
+use Rattle.dj_pool.proofs.SharedAreExact.{exact-u2, exact-counted, exact-attributes}
 use Rattle.dj_code.specs.CodeContent.{handler, code, content}
 
 exact-handler : IsExact handler

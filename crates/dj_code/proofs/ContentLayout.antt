@@ -2,7 +2,7 @@
 use Rattle.std.proofs.Common.{◌≡◌, ℕ, List, [], ◌++◌, refl, append_assoc}
 use Rattle.std.proofs.lemmas.List.{append-nil}
 use Rattle.dj_layout.specs.Layout.{Spells}
-use Rattle.dj_class.specs.SharedParts.{u2, counted, attribute}
+use Rattle.dj_pool.specs.SharedParts.{u2, counted, attribute}
 use Rattle.dj_class.proofs.RestParts.{four_texts}
 use Rattle.dj_code.specs.declared.content.RawHandler.{RawHandler}
 use Rattle.dj_code.specs.declared.content.CodeContent.{CodeContent}

@@ -2,11 +2,11 @@
 use Rattle.std.specs.Prelude.{ℕ, List, length, ◌&&◌, nat_le}
 use Rattle.dj_layout.specs.Layout.{Layout}
 use Rattle.dj_layout.specs.Parts.{number, run, exactly, headed, tested}
-use Rattle.dj_class.specs.declared.fault.BrokenKind.{BrokenKind}
-use Rattle.dj_class.specs.declared.fault.BrokenKind.TheVariants as kind
+use Rattle.dj_pool.specs.declared.fault.BrokenKind.{BrokenKind}
+use Rattle.dj_pool.specs.declared.fault.BrokenKind.TheVariants as kind
 use Rattle.dj_code.specs.declared.content.RawHandler.{RawHandler}
 use Rattle.dj_code.specs.declared.content.CodeContent.{CodeContent}
-use Rattle.dj_class.specs.SharedParts.{u2, counted, attribute}
+use Rattle.dj_pool.specs.SharedParts.{u2, counted, attribute}
 
 -- code has 1 to 65,535 bytes
 abbrev pub code_length : Layout BrokenKind ℕ

@@ -1,7 +1,7 @@
 -- What is found of a method, part by part.
 use Rattle.std.specs.Prelude.{◌≡◌, ◌⊎◌, ℕ, IsTrue, List, [], ⊤}
 use Rattle.dj_names.specs.Identifiers.{IsIdentifier}
-use Rattle.dj_class.specs.declared.entry.Entry.{Entry}
+use Rattle.dj_pool.specs.declared.entry.Entry.{Entry}
 use Rattle.dj_code.specs.declared.content.CodeContent.{CodeContent}
 use Rattle.dj_class.specs.Described.{ClassOf, MethodOf}
 use Rattle.dj_syntax.specs.Trees.{Exp, view_exp}

@@ -6,8 +6,8 @@ use Rattle.dj_names.specs.Types.{JType, Int, Method, parameters_of, view_descrip
 use Rattle.dj_names.specs.Identifiers.{IsIdentifier}
 use Rattle.dj_syntax.specs.Trees.{Exp, Return, And, Empty, Body}
 use Rattle.dj_syntax.specs.UnitText.{is_interface, method_bits}
-use Rattle.dj_class.specs.declared.entry.Entry.{Entry}
-use Rattle.dj_class.specs.FileFormat.{contents}
+use Rattle.dj_pool.specs.declared.entry.Entry.{Entry}
+use Rattle.dj_pool.specs.Attributes.{contents}
 use Rattle.dj_class.specs.Described.{ClassOf, MethodOf}
 use Rattle.dj_code.specs.declared.code.Code.{Code}
 use Rattle.dj_code.specs.declared.content.CodeContent.{CodeContent}

@@ -1,4 +1,4 @@
-use Rattle.dj_class.proofs.PoolTexts.{unread_constant}
+use Rattle.dj_class.proofs.ConstantTexts.{unread_constant}
 use Rattle.dj_class.proofs.attributes.is_constant_index.Goals as goal
 
 pub returns-in-None : goal.returns-in-None

@@ -1,6 +1,6 @@
 use Rattle.dj_layout.specs.Layout.{SpellsSome}
 use Rattle.dj_layout.specs.Parts.{times}
-use Rattle.dj_class.specs.SharedParts.{attribute}
+use Rattle.dj_pool.specs.SharedParts.{attribute}
 use Rattle.dj_class.specs.FileParts.{HasNoCode}
 use Rattle.dj_class.proofs.bodies.code_list.Given as goal
 

@@ -1,7 +1,7 @@
 use Rattle.std.specs.Option.{option_copied}
 use Rattle.dj_class.specs.FileFormat.{lawful_in_method}
 use Rattle.dj_class.specs.FileParts.{HasFound}
-use Rattle.dj_class.proofs.AttributeContents.{turn_counted}
+use Rattle.dj_class.proofs.AttributesInTurn.{turn_counted}
 use Rattle.dj_class.proofs.bodies.lawful_attributes_at.Goals as goal
 
 pub returns : goal.returns

@@ -2,7 +2,7 @@ use Rattle.std.proofs.Common.{refl}
 use Rattle.std.specs.Option.{option_copied}
 use Rattle.dj_class.specs.FileFormat.{lawful_in_method}
 use Rattle.dj_class.specs.FileParts.{HasFound}
-use Rattle.dj_class.proofs.AttributeContents.{turn_more}
+use Rattle.dj_class.proofs.AttributesInTurn.{turn_more}
 use Rattle.dj_class.proofs.bodies.method_attribute_list.Goals as goal
 
 pub loop-preserved : goal.loop-preserved

@@ -1,7 +1,7 @@
 use Rattle.std.specs.Option.{option_copied}
 use Rattle.dj_class.specs.FileFormat.{lawful_in_method}
 use Rattle.dj_class.specs.FileParts.{HasFound}
-use Rattle.dj_class.proofs.AttributeContents.{IsInTurn}
+use Rattle.dj_class.proofs.AttributesInTurn.{IsInTurn}
 use Rattle.dj_class.proofs.bodies.method_attribute_list.Given as goal
 
 abbrev pub invariant-loop : goal.invariant-loop

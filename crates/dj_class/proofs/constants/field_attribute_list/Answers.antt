@@ -2,7 +2,7 @@ use Rattle.std.proofs.Common.{refl}
 use Rattle.std.proofs.lemmas.Result.{err_from_is_err_and}
 use Rattle.dj_class.specs.FileFormat.{lawful_in_field}
 use Rattle.dj_class.specs.FileParts.{HasConstantIndex}
-use Rattle.dj_class.proofs.AttributeContents.{turn_more, turn_stop}
+use Rattle.dj_class.proofs.AttributesInTurn.{turn_more, turn_stop}
 use Rattle.dj_class.proofs.constants.field_attribute_list.Goals as goal
 
 pub loop-preserved : goal.loop-preserved

@@ -1,6 +1,6 @@
 use Rattle.dj_class.specs.FileFormat.{lawful_in_field}
 use Rattle.dj_class.specs.FileParts.{HasConstantIndex}
-use Rattle.dj_class.proofs.AttributeContents.{IsInTurn}
+use Rattle.dj_class.proofs.AttributesInTurn.{IsInTurn}
 use Rattle.dj_class.proofs.constants.field_attribute_list.Given as goal
 
 abbrev pub invariant-loop : goal.invariant-loop

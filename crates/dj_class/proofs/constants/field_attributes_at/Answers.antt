@@ -1,6 +1,6 @@
 use Rattle.dj_class.specs.FileFormat.{lawful_in_field}
 use Rattle.dj_class.specs.FileParts.{HasConstantIndex}
-use Rattle.dj_class.proofs.AttributeContents.{turn_counted}
+use Rattle.dj_class.proofs.AttributesInTurn.{turn_counted}
 use Rattle.dj_class.proofs.MemberAttributes.{constant_found}
 use Rattle.dj_class.proofs.constants.field_attributes_at.Goals as goal
 

@@ -2,7 +2,7 @@ use Rattle.std.proofs.Common.{inl, inr}
 use Rattle.std.proofs.lemmas.Result.{err_from_is_err_and}
 use Rattle.dj_layout.proofs.Steps.{stops_in}
 use Rattle.std.specs.Option.{option_copied}
-use Rattle.dj_class.specs.PoolFormat.{pool}
+use Rattle.dj_pool.specs.PoolFormat.{pool}
 use Rattle.dj_class.specs.FileFormat.{front}
 use Rattle.dj_class.proofs.front.front_at.Goals as goal
 

@@ -1,7 +1,7 @@
 use Rattle.std.proofs.Common.{map, inl, inr}
 use Rattle.std.proofs.lemmas.Result.{err_from_is_err_and}
 use Rattle.dj_layout.proofs.Steps.{stops_in}
-use Rattle.dj_class.specs.SharedParts.{counted}
+use Rattle.dj_pool.specs.SharedParts.{counted}
 use Rattle.dj_class.specs.Views.{view_field, view_method}
 use Rattle.dj_class.specs.FileFormat.{named, method, lawful_listed}
 use Rattle.dj_class.proofs.ListedParts.{listed_read}

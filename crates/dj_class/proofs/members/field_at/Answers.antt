@@ -2,10 +2,10 @@ use Rattle.std.proofs.Common.{IsSomeAnd, inl, inr}
 use Rattle.std.proofs.lemmas.Result.{err_from_is_err_and}
 use Rattle.dj_layout.specs.Passes.{asked}
 use Rattle.dj_layout.proofs.Steps.{stops_in}
-use Rattle.dj_class.specs.declared.fault.BrokenKind.TheVariants as kind
-use Rattle.dj_class.specs.SharedParts.{u2}
+use Rattle.dj_pool.specs.declared.fault.BrokenKind.TheVariants as kind
+use Rattle.dj_pool.specs.SharedParts.{u2}
 use Rattle.dj_names.specs.Types.{view_type}
-use Rattle.dj_class.specs.PoolFormat.{text_at, IsFieldText}
+use Rattle.dj_pool.specs.PoolFormat.{text_at, IsFieldText}
 use Rattle.dj_class.specs.FileFormat.{counted_in_turn, lawful_in_field, field}
 use Rattle.dj_class.proofs.MemberReading.{field_read}
 use Rattle.dj_class.proofs.members.field_at.Goals as goal

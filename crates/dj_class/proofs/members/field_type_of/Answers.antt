@@ -1,6 +1,6 @@
 use Rattle.dj_names.specs.Types.{Field}
-use Rattle.dj_class.specs.PoolFormat.{text_at, IsFieldText}
-use Rattle.dj_class.proofs.PoolTexts.{no_text, method_is_no_field}
+use Rattle.dj_pool.specs.PoolFormat.{text_at, IsFieldText}
+use Rattle.dj_pool.proofs.PoolTexts.{no_text, method_is_no_field}
 use Rattle.dj_class.proofs.members.field_type_of.Goals as goal
 
 pub returns-in-Some-Method-clause-none : goal.returns-in-Some-Method-clause-none

@@ -1,6 +1,6 @@
 use Rattle.std.proofs.Common.{refl}
-use Rattle.dj_class.specs.PoolFormat.{text_at}
-use Rattle.dj_class.proofs.PoolTexts.{some_method}
+use Rattle.dj_pool.specs.PoolFormat.{text_at}
+use Rattle.dj_pool.proofs.PoolTexts.{some_method}
 use Rattle.dj_class.proofs.members.method_descriptor_of.Goals as goal
 
 pub returns-clause-none : goal.returns-clause-none

@@ -2,8 +2,8 @@ use Rattle.std.specs.List.{AllZip}
 use Rattle.dj_layout.specs.Layout.{SpellsSome}
 use Rattle.dj_layout.specs.Parts.{times}
 use Rattle.dj_layout.specs.Passes.{asked}
-use Rattle.dj_class.specs.declared.fault.BrokenKind.TheVariants.{Index}
-use Rattle.dj_class.specs.SharedParts.{u2}
+use Rattle.dj_pool.specs.declared.fault.BrokenKind.TheVariants.{Index}
+use Rattle.dj_pool.specs.SharedParts.{u2}
 use Rattle.dj_class.specs.FileFormat.{IsClassIndex, LeadsTo}
 use Rattle.dj_class.proofs.own.class_list.Given as goal
 

@@ -2,8 +2,8 @@ use Rattle.std.proofs.Common.{inl, inr, refl}
 use Rattle.std.proofs.lemmas.Result.{err_from_is_err_and}
 use Rattle.dj_layout.specs.Passes.{asked}
 use Rattle.dj_layout.proofs.Steps.{stops_in}
-use Rattle.dj_class.specs.declared.fault.BrokenKind.TheVariants.{Index}
-use Rattle.dj_class.specs.SharedParts.{u2}
+use Rattle.dj_pool.specs.declared.fault.BrokenKind.TheVariants.{Index}
+use Rattle.dj_pool.specs.SharedParts.{u2}
 use Rattle.dj_class.specs.FileFormat.{IsSuperIndex, lawful_own}
 use Rattle.dj_class.proofs.RestParts.{lawful_own_spelled}
 use Rattle.dj_class.proofs.own.own_at.Goals as goal

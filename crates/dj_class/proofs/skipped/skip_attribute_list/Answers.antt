@@ -1,4 +1,4 @@
-use Rattle.dj_class.specs.SharedParts.{attribute}
+use Rattle.dj_pool.specs.SharedParts.{attribute}
 use Rattle.dj_layout.proofs.Loops.{skip_more}
 use Rattle.dj_class.proofs.skipped.skip_attribute_list.Goals as goal
 

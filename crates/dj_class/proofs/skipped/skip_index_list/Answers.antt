@@ -1,4 +1,4 @@
-use Rattle.dj_class.specs.SharedParts.{u2}
+use Rattle.dj_pool.specs.SharedParts.{u2}
 use Rattle.dj_layout.proofs.Loops.{skip_more}
 use Rattle.dj_class.proofs.skipped.skip_index_list.Goals as goal
 

@@ -1,6 +1,6 @@
 use Rattle.dj_layout.specs.Layout.{SpellsAny}
 use Rattle.dj_layout.specs.Parts.{times}
-use Rattle.dj_class.specs.SharedParts.{u2}
+use Rattle.dj_pool.specs.SharedParts.{u2}
 use Rattle.dj_class.proofs.skipped.skip_index_list.Given as goal
 
 abbrev pub invariant-loop : goal.invariant-loop

@@ -1,7 +1,8 @@
 use Rattle.std.proofs.Common.{inl, inr}
 use Rattle.std.proofs.lemmas.Result.{err_from_is_err_and}
 use Rattle.dj_layout.proofs.Steps.{stops_in}
-use Rattle.dj_class.specs.SharedParts.{counted, attribute, member}
+use Rattle.dj_pool.specs.SharedParts.{counted, attribute}
+use Rattle.dj_class.specs.Members.{member}
 use Rattle.dj_class.proofs.RestParts.{member_spelled}
 use Rattle.dj_class.proofs.skipped.skip_member.Goals as goal
 

@@ -1,4 +1,4 @@
-use Rattle.dj_class.specs.SharedParts.{member}
+use Rattle.dj_class.specs.Members.{member}
 use Rattle.dj_layout.proofs.Loops.{skip_more}
 use Rattle.dj_class.proofs.skipped.skip_member_list.Goals as goal
 

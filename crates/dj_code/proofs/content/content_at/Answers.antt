@@ -1,7 +1,7 @@
 use Rattle.std.proofs.Common.{inl, inr}
 use Rattle.std.proofs.lemmas.Result.{err_from_is_err_and}
 use Rattle.dj_layout.proofs.Steps.{stops_in}
-use Rattle.dj_class.specs.SharedParts.{counted, attribute}
+use Rattle.dj_pool.specs.SharedParts.{counted, attribute}
 use Rattle.dj_code.specs.CodeContent.{code, handler, content}
 use Rattle.dj_code.proofs.ContentLayout.{spells_content}
 use Rattle.dj_code.proofs.content.content_at.Goals as goal

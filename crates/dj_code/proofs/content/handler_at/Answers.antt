@@ -1,7 +1,7 @@
 use Rattle.std.proofs.Common.{inl, inr}
 use Rattle.std.proofs.lemmas.Result.{err_from_is_err_and}
 use Rattle.dj_layout.proofs.Steps.{stops_in}
-use Rattle.dj_class.specs.SharedParts.{u2}
+use Rattle.dj_pool.specs.SharedParts.{u2}
 use Rattle.dj_code.specs.CodeContent.{handler}
 use Rattle.dj_code.proofs.ContentLayout.{spells_handler}
 use Rattle.dj_code.proofs.content.handler_at.Goals as goal

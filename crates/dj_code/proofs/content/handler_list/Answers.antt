@@ -1,7 +1,7 @@
 use Rattle.std.proofs.lemmas.Result.{err_from_is_err_and}
 use Rattle.dj_layout.proofs.Loops.{times_stop}
 use Rattle.dj_code.specs.CodeContent.{handler}
-use Rattle.dj_class.proofs.Pushed.{times_pushed}
+use Rattle.dj_pool.proofs.Pushed.{times_pushed}
 use Rattle.dj_code.proofs.content.handler_list.Goals as goal
 
 pub returns-in_err-handler : goal.returns-in_err-handler

@@ -1,5 +1,5 @@
 use Rattle.dj_code.specs.CodeContent.{content}
-use Rattle.dj_class.proofs.SharedAreExact.{faulty_is_no_spelling}
+use Rattle.dj_pool.proofs.SharedAreExact.{faulty_is_no_spelling}
 use Rattle.dj_code.proofs.ContentIsExact.{exact-content}
 use Rattle.dj_code.proofs.content.read_content.Goals as goal
 

@@ -1,7 +1,0 @@
-use Rattle.dj_layout.specs.Layout.{Spells}
-use Rattle.dj_layout.specs.Parts.{times}
-use Rattle.dj_class.specs.SharedParts.{attribute}
-use Rattle.dj_class.proofs.raw.attribute_list.Given as goal
-
-abbrev pub invariant-loop : goal.invariant-loop
-invariant-loop l = Spells (times l.counter attribute) l.bytes l.found l.rest

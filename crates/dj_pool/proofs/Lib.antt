@@ -1,0 +1,12 @@
+pub mod Examples
+pub mod SharedAreExact
+pub mod Pushed
+pub mod NameTests
+pub mod Zips
+pub mod Utf8Exact
+pub mod PoolIsExact
+pub mod PoolIsFiner
+pub mod PoolTables
+pub mod PoolTexts
+pub mod PoolReading
+pub mod AttributeContents

@@ -1,0 +1,10 @@
+use Rattle.dj_pool.specs.PoolFormat.{text_at}
+use Rattle.dj_pool.proofs.PoolTexts.{no_field, method_no_field}
+use Rattle.dj_pool.proofs.texts.is_field_text.Goals as goal
+
+pub returns-in-None : goal.returns-in-None
+returns-in-None c = record { exact = no_field (text_at c.args.pool.now c.args.index) c.in-None.ensures.read }
+
+pub returns-in-Some-Method : goal.returns-in-Some-Method
+returns-in-Some-Method c =
+    record { exact = method_no_field (text_at c.args.pool.now c.args.index) c.in-Some-Method.field-0.now c.in-Some-Method.field-0-0 c.in-Some-Method.field-0-1 c.in-Some-Method.field-0-is c.in-Some-Method.ensures.read }

@@ -1,0 +1,23 @@
+//! The constant pool of a class file (JVMS 4.4) and attributes as they are laid out (JVMS 4.7).
+//! It stands on `dj_layout` for the format, and on `dj_names` for names and descriptors.
+//! The layers above use the clauses `reads` of `pool_at` and `attributes_at`, and what `Pool` says an index leads to.
+#![tactic(auto)]
+
+mod attributes;
+mod entries;
+mod entry;
+mod fault;
+mod names;
+mod parsed;
+mod pool;
+mod pools;
+mod raw;
+mod texts;
+
+pub use attributes::{has_attribute, is_name};
+pub use entry::Entry;
+pub use fault::BrokenKind;
+pub use pool::Pool;
+pub use pools::pool_at;
+pub use raw::{Attribute, attribute_at, attributes_at};
+pub use texts::{class_text_at, has_tag, is_method_text, is_text};
