@@ -13,7 +13,7 @@ use Rattle.dj_syntax.specs.WellFormed.{IsWellFormed, IsWellFormedMethod, IsWellF
 use Rattle.dj_syntax.proofs.MethodNames.{identifier_is_no_method_keyword, IsMethodDescriptor-ints, segments-plain, segments-append}
 use Rattle.dj_print.specs.Printable.{IsAsciiName}
 use Rattle.dj_print.proofs.WellFormedIsAscii.{ascii_qualified}
-use Rattle.dj_cli.specs.ClassText.{IsClassText, method_text, printed_methods}
+use Rattle.dj_unit.specs.ClassText.{IsClassText, method_text, printed_methods}
 use Rattle.dj_straight.specs.StraightMethod.{IsStraightMethod, IsBodyOf}
 
 -- a fact of each of some items and of others

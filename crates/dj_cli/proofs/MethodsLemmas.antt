@@ -7,8 +7,8 @@ use Rattle.dj_syntax.specs.Trees.{Exp, Body, MethodText}
 use Rattle.dj_syntax.specs.WellFormed.{IsWellFormedExp, IsWellFormedMethod}
 use Rattle.dj_straight.specs.StraightMethod.{IsStraightMethod, IsNotYet, IsBodyOf}
 use Rattle.dj_straight.proofs.StraightShows.{straight_methods_show}
-use Rattle.dj_cli.specs.ClassText.{method_text, printed_methods}
-use Rattle.dj_cli.specs.Report.{not_yet_tail, shown_method}
+use Rattle.dj_unit.specs.ClassText.{method_text, printed_methods}
+use Rattle.dj_report.specs.Report.{not_yet_tail, shown_method}
 use Rattle.dj_cli.specs.Output.{Verdict, Prints, NotYet, PrintsMethod, IsVerdict, AreVerdicts, bodies_of, method_line, method_lines}
 use Rattle.dj_cli.specs.Methods.{AreJudged, IsTextOf}
 use Rattle.dj_cli.proofs.ClassTextLemmas.{method_well_formed}

@@ -5,8 +5,8 @@ use Rattle.dj_syntax.specs.Trees.{Body, MethodText, CompilationUnit}
 use Rattle.dj_syntax.specs.UnitText.{unit_text}
 use Rattle.dj_syntax.specs.WellFormed.{IsWellFormed}
 use Rattle.dj_read.proofs.OneText.{units_have_one_text}
-use Rattle.dj_cli.specs.ClassText.{IsClassText, file_line, printed_methods}
-use Rattle.dj_cli.specs.ClassPart.{IsClassPart}
+use Rattle.dj_unit.specs.ClassText.{IsClassText, file_line, printed_methods}
+use Rattle.dj_unit.specs.ClassPart.{IsClassPart}
 use Rattle.dj_cli.specs.Output.{PrintsClass, bodies_of}
 use Rattle.dj_cli.specs.Methods.{AreJudged}
 use Rattle.dj_cli.proofs.ClassTextLemmas.{unit_well_formed}

@@ -1,7 +1,7 @@
 -- How a run ends with a last line.
 use Rattle.std.proofs.Common.{Ok, sym, subst, inl, inr}
-use Rattle.dj_cli.specs.declared.status.Status.{Status}
-use Rattle.dj_cli.specs.Status.{OnReportFault}
+use Rattle.dj_report.specs.declared.status.Status.{Status}
+use Rattle.dj_report.specs.Status.{OnReportFault}
 use Rattle.dj_cli.specs.Run.{EndsSo}
 
 -- a run that ends with a last line ends with a fault of the report only where the line was cut off

@@ -11,7 +11,8 @@ use Rattle.dj_names.specs.Shown.{show_units}
 use Rattle.dj_cli.specs.declared.methods.MethodLine.{MethodLine}
 use Rattle.dj_cli.specs.declared.telling.TellStop.{TellStop}
 use Rattle.dj_cli.specs.declared.telling.TellStop.TheVariants.{Text, Report, Memory}
-use Rattle.dj_cli.specs.Output.{Piece, FileIs, IsFilePiece, IsNext, none, more, text_of, lines_of, Grew, ToldFirst, ToldAll, ToldSome, ToldFront, Cut, InText, InLines}
+use Rattle.dj_cli.specs.Output.{Piece, IsFilePiece, IsNext, none, more, text_of, lines_of, Grew, ToldFirst, ToldAll, ToldSome, ToldFront, Cut, InText, InLines}
+use Rattle.dj_load.specs.HeldFiles.{FileIs}
 use Rattle.dj_cli.specs.Methods.{line_bytes, lines_bytes}
 use Rattle.dj_cli.specs.Telling.{StoppedTelling, TellsPiece, CutsPiece, StopsPiece}
 

@@ -7,8 +7,8 @@ use Rattle.dj_syntax.specs.Trees.{Exp, Body, MethodText}
 use Rattle.dj_syntax.specs.WellFormed.{IsWellFormedMethod}
 use Rattle.dj_straight.specs.StraightMethod.{IsBodyOf}
 use Rattle.dj_cli.specs.declared.methods.MethodLine.{MethodLine}
-use Rattle.dj_cli.specs.ClassText.{method_text, printed_methods}
-use Rattle.dj_cli.specs.Report.{shown_method}
+use Rattle.dj_unit.specs.ClassText.{method_text, printed_methods}
+use Rattle.dj_report.specs.Report.{shown_method}
 use Rattle.dj_cli.specs.Output.{Verdict, AreVerdicts, bodies_of, method_lines}
 
 -- the text of a method that returns an expression

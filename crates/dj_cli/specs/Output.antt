@@ -1,24 +1,21 @@
 -- What a run tells of the files of an order, in pieces, and how far it got: the headline.
-use Rattle.std.specs.Prelude.{◌≡◌, ◌≢◌, ◌⊎◌, ℕ, ◌+◌, ◌≤◌, Bool, List, [], ◌∷◌, ◌++◌, length, map, take, slice_get, Option, Some, None, IfSome, IsSomeAnd, MatchBool, All, ⊤}
-use Rattle.std.specs.List.{AllZip, flat_map}
+use Rattle.std.specs.Prelude.{◌≡◌, ◌≢◌, ◌⊎◌, ℕ, ◌+◌, Bool, List, [], ◌∷◌, ◌++◌, length, map, take, slice_get, Option, Some, None, IfSome, IsSomeAnd, MatchBool, ⊤}
+use Rattle.std.specs.List.{flat_map}
 use Rattle.std.specs.Io.KnownBytes.{append_known}
-use Rattle.dj_outer.specs.Files.{file_named}
-use Rattle.dj_layout.specs.declared.fault.Fault.{Fault}
 use Rattle.dj_names.specs.declared.header.Header.{Header}
 use Rattle.dj_names.specs.declared.members.ClassMembers.{ClassMembers}
-use Rattle.dj_pool.specs.declared.fault.BrokenKind.{BrokenKind}
-use Rattle.dj_class.specs.Described.{ClassOf, MethodOf, SpellsClass, HasFault}
-use Rattle.dj_class.specs.FaultOf.{shown_place}
+use Rattle.dj_class.specs.Described.{ClassOf, MethodOf}
 use Rattle.dj_syntax.specs.Trees.{Exp, Body, CompilationUnit}
 use Rattle.dj_syntax.specs.UnitText.{unit_text}
 use Rattle.dj_syntax.specs.WellFormed.{IsWellFormed}
 use Rattle.dj_code.specs.declared.code.Code.{Code}
 use Rattle.dj_bytecode.specs.SameShows.{SameShows}
 use Rattle.dj_straight.specs.StraightMethod.{IsStraightMethod, IsNotYet, IsBodyOf, HasCode}
-use Rattle.dj_cli.specs.ClassText.{IsClassText, file_line}
-use Rattle.dj_cli.specs.ClassPart.{IsClassPart}
-use Rattle.dj_cli.specs.Report.{line_text}
-use Rattle.dj_cli.specs.Report as report
+use Rattle.dj_unit.specs.ClassText.{IsClassText, file_line}
+use Rattle.dj_unit.specs.ClassPart.{IsClassPart}
+use Rattle.dj_report.specs.Report.{line_text}
+use Rattle.dj_report.specs.Report as report
+use Rattle.dj_load.specs.HeldFiles.{Files, FileIs, IsClass, IsBroken, Setting}
 
 -- what is told of one file, or behind the last one: a text, and then the lines of the report on it
 pub record Piece : Type 0 where
@@ -91,41 +88,12 @@ pub data IsClassPiece (class : ClassOf) (piece : Piece) : Type 0 where
   printed : IsClassPart class → PrintsClass class piece → IsClassPiece class piece
   not_yet : ¬ IsClassPart class → piece.text ≡ [] → piece.lines ≡ line_text (report.NotYetClass class.this_class) → IsClassPiece class piece
 
--- what a file is: a class, or broken, by what is wrong first and its offset
-pub data FileIs : Type 0 where
-  IsClass : ClassOf → FileIs
-  IsBroken : BrokenKind → ℕ → FileIs
-
--- the bytes are a class file of Java SE 6 to 8, of this class; or they have a fault of this kind, at this offset as a report gives it
-abbrev pub IsFile : List ℕ → FileIs → Type 0
-IsFile bytes (IsClass class) = SpellsClass bytes 50 class
-IsFile bytes (IsBroken kind offset) = (fault : Fault BrokenKind) × HasFault bytes 50 fault × (kind ≡ fault.kind) × (offset ≡ shown_place fault.offset)
-
 -- the piece of a file of this name: that of its class, or the line that it is broken
 abbrev pub IsFilePiece : List ℕ → FileIs → Piece → Type 0
 IsFilePiece name (IsClass class) piece = IsClassPiece class piece
 IsFilePiece name (IsBroken kind offset) piece = (piece.text ≡ []) × (piece.lines ≡ line_text (report.Broken name kind offset))
 
 -- ---- all files
-
--- files as names with bytes
-abbrev pub Files : Type 0
-Files = List (List ℕ × List ℕ)
-
--- the most bytes that a file may have
-abbrev pub most_bytes : ℕ
-most_bytes = 16777216
-
--- the contents of the files of these names, none of them too large
-pub record AreContents (held : Files) (names contents : List (List ℕ)) : Type 0 where
-  pub loaded : map (file_named held) names ≡ map Some contents
-  pub small : All (λ bytes. length bytes ≤ most_bytes) contents
-
--- what all that is told rests on: each file of these names was loaded, and is what was found
-pub record Setting (held : Files) (names : List (List ℕ)) (found : List FileIs) : Type 0 where
-  pub contents : List (List ℕ)
-  pub are : AreContents held names contents
-  pub files : AllZip IsFile contents found
 
 -- the piece behind those of the files: today nothing
 pub record IsLastPiece (piece : Piece) : Type 0 where

@@ -4,7 +4,7 @@ use Rattle.dj_cli.specs.declared.pieces.ClassPiece.{ClassPiece}
 use Rattle.dj_syntax.specs.Trees.{CompilationUnit}
 use Rattle.dj_syntax.specs.UnitText.{unit_text}
 use Rattle.dj_cli.specs.declared.methods.MethodLine.{MethodLine}
-use Rattle.dj_cli.specs.ClassText.{file_line}
+use Rattle.dj_unit.specs.ClassText.{file_line}
 use Rattle.dj_cli.specs.Methods.{lines_bytes}
 use Rattle.dj_cli.specs.Output.{Piece}
 

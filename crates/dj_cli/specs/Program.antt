@@ -1,14 +1,12 @@
--- What the program loads, and how a run ends that prints nothing.
-use Rattle.std.specs.Prelude.{◌≡◌, ℕ, ◌+◌, ◌<◌, List, [], ◌++◌, length, take, slice_get, Option, IfSome, IsSomeAnd, Result, Ok, Err}
+-- Which files a run is to load, and how a run ends that prints nothing.
+use Rattle.std.specs.Prelude.{◌≡◌, ℕ, List, [], Option, Result, Ok, Err}
 use Rattle.std.specs.Io.KnownBytes.{append_known}
-use Rattle.std.specs.Option.{option_map}
-use Rattle.dj_outer.specs.Count.{Rose}
 use Rattle.dj_outer.specs.Sink.{TakesPrefix}
-use Rattle.dj_outer.specs.Files.{file_named}
-use Rattle.dj_cli.specs.declared.status.UsageKind.{UsageKind}
-use Rattle.dj_cli.specs.Words.{order_of}
-use Rattle.dj_cli.specs.Report.{Line, Usage, Read, Much, line_text}
-use Rattle.dj_cli.specs.Output.{Files, most_bytes, AreContents}
+use Rattle.dj_report.specs.declared.status.UsageKind.{UsageKind}
+use Rattle.dj_report.specs.Words.{order_of}
+use Rattle.dj_report.specs.Report.{Line, Usage, Read, Much, line_text}
+use Rattle.dj_load.specs.HeldFiles.{Files}
+use Rattle.dj_load.specs.Loads.{ReadFails, IsTooMuch}
 
 -- the names of an order; words that give none order nothing
 abbrev pub names_or_none : Result (List (List ℕ)) UsageKind → List (List ℕ)
@@ -18,34 +16,6 @@ names_or_none (Err kind) = []
 -- the names of the files to load, in order
 abbrev pub due_names : List (List ℕ) → List (List ℕ)
 due_names words = names_or_none (order_of words)
-
--- ---- loads
-
--- the names asked, where they are told, with these at the end
-abbrev pub asked_with : Option (List (List ℕ)) → List (List ℕ) → Option (List (List ℕ))
-asked_with asked names = option_map (λ before. before ++ names) asked
-
--- the names asked in a call are some first of these
-abbrev pub AsksFront : Option (List (List ℕ)) → Option (List (List ℕ)) → List (List ℕ) → Type 0
-AsksFront old new names = (count : ℕ) × (new ≡ asked_with old (take count names))
-
--- files of these names are held, none of them too large, where the files are told
-abbrev pub CanLoad : Option Files → List (List ℕ) → Type 0
-CanLoad held names = IfSome held (λ files. (contents : List (List ℕ)) × AreContents files names contents)
-
--- the load of the name at this place counted a fault: the files before it were loaded, and no name behind it was asked
-pub record ReadFails (held : Option Files) (names : List (List ℕ)) (asked_old asked_new : Option (List (List ℕ))) (faults_old faults_new : ℕ) (place : ℕ) : Type 0 where
-  pub due : place < length names
-  pub rose : Rose faults_old faults_new
-  pub before : CanLoad held (take place names)
-  pub asked : asked_new ≡ asked_with asked_old (take (place + 1) names)
-
--- the file at this place is too large: the files before it were loaded, and no name behind it was asked
-pub record IsTooMuch (held : Option Files) (names : List (List ℕ)) (asked_old asked_new : Option (List (List ℕ))) (place : ℕ) : Type 0 where
-  pub due : place < length names
-  pub over : IfSome held (λ files. IsSomeAnd (slice_get names place) (λ name. IsSomeAnd (file_named files name) (λ bytes. most_bytes < length bytes)))
-  pub before : CanLoad held (take place names)
-  pub asked : asked_new ≡ asked_with asked_old (take (place + 1) names)
 
 -- ---- last lines
 

@@ -1,20 +1,12 @@
 //! The main job: class files in, Java source and a report out, with its meaning proved.
-//! It stands on the class reader, on straight methods and the printer, and on `dj_outer`.
+//! It stands on `dj_load` for the files, on `dj_straight`, `dj_unit` and `dj_print` for what is told of a class, and on `dj_report` for words and lines.
 //! The program uses `run`, whose clauses are the headline.
 #![tactic(auto)]
 
-mod class_part;
-mod class_text;
-mod loading;
 mod methods;
 mod pieces;
 mod program;
-mod putting;
-mod report;
-mod status;
 mod telling;
-mod words;
 
+pub use dj_report::{Order, Status, UsageKind, WordsFault, read_words};
 pub use program::run;
-pub use status::{Status, UsageKind};
-pub use words::{Order, WordsFault, read_words};

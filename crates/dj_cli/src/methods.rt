@@ -5,12 +5,12 @@ ghost use Rattle.dj_names.specs.Types.{view_descriptor};
 ghost use Rattle.dj_class.specs.Views.{view_class, view_method};
 ghost use Rattle.dj_syntax.specs.Trees as trees;
 ghost use Rattle.dj_syntax.specs.Trees.{view_body, view_exp};
-ghost use Rattle.dj_cli.specs.ClassText.{method_text};
+ghost use Rattle.dj_unit.specs.ClassText.{method_text};
 ghost use Rattle.dj_cli.specs.Methods.{AreJudged, IsTextOf, lines_bytes};
 
-use crate::report::not_yet_tail;
 use dj_class::{ClassFile, Method};
 use dj_names::{Items, MethodHead, copy_names};
+use dj_report::not_yet_tail;
 use dj_straight::{Declared, Judged, judge, returning_body};
 use dj_syntax::{Body, Exp, MethodText, method_bits};
 use std::alloc::{AllocError, Global};

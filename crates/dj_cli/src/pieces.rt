@@ -2,18 +2,18 @@
 
 ghost use Rattle.std.specs.Prelude.{◌≡◌, ◌<◌, All, IfOk};
 ghost use Rattle.dj_class.specs.Views.{view_class};
-ghost use Rattle.dj_cli.specs.ClassPart.{IsClassPart};
+ghost use Rattle.dj_unit.specs.ClassPart.{IsClassPart};
 ghost use Rattle.dj_cli.specs.Output.{PrintsClass};
 ghost use Rattle.dj_cli.specs.Pieces.{piece_of, piece_of_parts};
 ghost use Rattle.dj_print.specs.Printable.{IsAscii};
 ghost use Rattle.dj_syntax.specs.Trees.{view_unit};
 
-use crate::class_text::{class_unit, file_line};
 use crate::methods::{Judgement, MethodLine, judge_methods};
 use dj_class::ClassFile;
 use dj_names::ClassName;
 use dj_print::unit_bytes;
 use dj_syntax::Unit;
+use dj_unit::{class_unit, file_line};
 use std::alloc::{AllocError, Global};
 
 /// What is told of a class.

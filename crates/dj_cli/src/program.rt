@@ -5,20 +5,19 @@ ghost use Rattle.std.specs.Io.KnownBytes.{append_known};
 ghost use Rattle.std.specs.String.{string_bytes};
 ghost use Rattle.dj_outer.specs.Count.{Rose};
 ghost use Rattle.dj_outer.specs.Sink.{TakesPrefix};
-ghost use Rattle.dj_cli.specs.Words.{order_of};
-ghost use Rattle.dj_cli.specs.Status.{MatchEnd, OnClean, OnRefused, IfUsage, IfReadFault, OnTextFault, OnReportFault, IfTooMuch, OnLoaded};
-ghost use Rattle.dj_cli.specs.Report.{Line};
+ghost use Rattle.dj_report.specs.Words.{order_of};
+ghost use Rattle.dj_report.specs.Status.{MatchEnd, OnClean, OnRefused, IfUsage, IfReadFault, OnTextFault, OnReportFault, IfTooMuch, OnLoaded};
+ghost use Rattle.dj_report.specs.Report.{Line};
 ghost use Rattle.dj_cli.specs.Output.{InLines, InText, OfFiles, StopsForMemory, ToldAll, ToldFront, ToldSome};
-ghost use Rattle.dj_cli.specs.Program.{AsksFront, CutsLastLine, IsTooMuch, ReadFails, TellsLine, asked_with, due_names};
-ghost use Rattle.dj_cli.specs.Loading.{all_found};
+ghost use Rattle.dj_load.specs.Loads.{AsksFront, IsTooMuch, ReadFails, asked_with};
+ghost use Rattle.dj_cli.specs.Program.{CutsLastLine, TellsLine, due_names};
+ghost use Rattle.dj_load.specs.Loading.{all_found};
 ghost use Rattle.dj_cli.specs.Run.{EndsSo};
 
-use crate::loading::{Found, LoadStop, load_files, read_files};
-use crate::report::{much_line, read_line, usage_line};
-use crate::status::Status;
 use crate::telling::{TellStop, tell_files};
-use crate::words::{WordsFault, read_words};
+use dj_load::{Found, LoadStop, load_files, read_files};
 use dj_outer::{Files, Sink};
+use dj_report::{Status, WordsFault, much_line, read_line, read_words, usage_line};
 use std::alloc::{AllocError, Global};
 
 /// Puts one last line, and ends with this status.

@@ -5,22 +5,22 @@ ghost use Rattle.std.specs.String.{string_bytes};
 ghost use Rattle.dj_outer.specs.Count.{Rose};
 ghost use Rattle.dj_outer.specs.Sink.{Puts};
 ghost use Rattle.dj_class.specs.Views.{view_class};
-ghost use Rattle.dj_cli.specs.ClassPart.{IsClassPart};
-ghost use Rattle.dj_cli.specs.Loading.{all_found, found_of};
+ghost use Rattle.dj_unit.specs.ClassPart.{IsClassPart};
+ghost use Rattle.dj_load.specs.Loading.{all_found, found_of};
 ghost use Rattle.dj_cli.specs.Methods.{lines_bytes};
-ghost use Rattle.dj_cli.specs.Output.{InLines, InText, IsBroken, IsClassPiece, IsFilePiece, ToldAll, ToldFront, ToldSome};
+ghost use Rattle.dj_cli.specs.Output.{InLines, InText, IsClassPiece, IsFilePiece, ToldAll, ToldFront, ToldSome};
+ghost use Rattle.dj_load.specs.HeldFiles.{IsBroken};
 ghost use Rattle.dj_cli.specs.Pieces.{text_bytes};
 ghost use Rattle.dj_cli.specs.Telling.{StoppedTelling, StopsPiece, TellsPiece};
 
-use crate::class_part::is_class_part;
-use crate::loading::Found;
 use crate::methods::MethodLine;
 use crate::pieces::{ClassPiece, piece_of_class};
-use crate::putting::put_piece;
-use crate::report::{broken_line, put_class_line, put_method_line};
 use dj_class::{BrokenKind, ClassFile};
+use dj_load::Found;
 use dj_names::ClassName;
 use dj_outer::{Failed, Sink};
+use dj_report::{broken_line, put_class_line, put_method_line, put_piece};
+use dj_unit::is_class_part;
 use std::alloc::{AllocError, Global};
 
 /// Why not everything was told.
@@ -57,7 +57,14 @@ fn put_lines<P: Sink>(report: &mut P, class: &ClassName, lines: &[MethodLine]) -
     ensures puts { Puts result (P.taken report.old) (P.taken report.new) (P.faults report.old) (P.faults report.new) (lines_bytes class.now lines.now) }
 {
     for line in lines {
-        put_method_line(report, class, line.method, line.tail.as_str())?;
+        let method = line.method;
+        put_method_line(
+            report,
+            class,
+            &method.name,
+            &method.descriptor,
+            line.tail.as_str(),
+        )?;
     }
     Ok(())
 }

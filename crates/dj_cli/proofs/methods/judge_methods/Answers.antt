@@ -5,7 +5,7 @@ use Rattle.dj_syntax.specs.Trees as trees
 use Rattle.dj_syntax.specs.Trees.{view_exp}
 use Rattle.dj_straight.specs.Judged.{IsJudged}
 use Rattle.dj_cli.specs.Methods.{lines_bytes}
-use Rattle.dj_cli.proofs.LoadingLemmas.{take_map_more}
+use Rattle.dj_load.proofs.LoadingLemmas.{take_map_more}
 use Rattle.dj_cli.proofs.MethodsLemmas.{judged_text, judged_line, all_at}
 use Rattle.dj_cli.proofs.TellingLemmas.{lines_bytes-push}
 use Rattle.dj_cli.proofs.methods.judge_methods.Goals as goal

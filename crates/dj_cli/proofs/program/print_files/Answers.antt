@@ -1,10 +1,10 @@
 use Rattle.std.proofs.Common.{◌≡◌, length, refl, sym, ap, ◌∙◌, inr}
 use Rattle.std.proofs.lemmas.List.{length-map}
-use Rattle.dj_cli.specs.declared.status.Status.TheVariants.{ReadFault, TooMuch}
-use Rattle.dj_cli.specs.Report.{Read, Much}
-use Rattle.dj_cli.specs.Loading.{all_found, contents_of, found_of}
+use Rattle.dj_report.specs.declared.status.Status.TheVariants.{ReadFault, TooMuch}
+use Rattle.dj_report.specs.Report.{Read, Much}
+use Rattle.dj_load.specs.Loading.{all_found, contents_of, found_of}
 use Rattle.dj_cli.specs.Program.{read, much}
-use Rattle.dj_cli.proofs.LoadingLemmas.{read_number}
+use Rattle.dj_load.proofs.LoadingLemmas.{read_number}
 use Rattle.dj_cli.proofs.RunLemmas.{ends-report}
 use Rattle.dj_cli.proofs.program.print_files.Goals as goal
 

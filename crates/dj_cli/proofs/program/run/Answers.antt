@@ -1,6 +1,6 @@
 use Rattle.std.proofs.Common.{◌∙◌, refl, inr}
-use Rattle.dj_cli.specs.declared.status.Status.TheVariants.{Usage}
-use Rattle.dj_cli.specs.Report as lines
+use Rattle.dj_report.specs.declared.status.Status.TheVariants.{Usage}
+use Rattle.dj_report.specs.Report as lines
 use Rattle.dj_cli.specs.Program.{usage}
 use Rattle.dj_cli.proofs.RunLemmas.{ends-report}
 use Rattle.dj_cli.proofs.program.run.Goals as goal

@@ -2,7 +2,7 @@ use Rattle.std.proofs.Common.{◌+◌, ◌<◌, length, drop, arith}
 use Rattle.std.proofs.lemmas.Result.{err_from_is_err_and}
 use Rattle.dj_outer.proofs.PutsLemmas.{puts-as, puts-stop, puts-then}
 use Rattle.dj_cli.specs.Methods.{line_bytes, lines_bytes}
-use Rattle.dj_cli.proofs.ShownLemmas.{parts-at}
+use Rattle.dj_report.proofs.ShownLemmas.{parts-at}
 use Rattle.dj_cli.proofs.telling.put_lines.Goals as goal
 
 pub returns-in_err-put_method_line : goal.returns-in_err-put_method_line

@@ -1,7 +1,8 @@
 use Rattle.std.proofs.Common.{[], ◌++◌, codes, decimal, refl}
 use Rattle.dj_names.specs.Shown.{show_units}
-use Rattle.dj_cli.specs.Report.{Broken, broken_text, line_text, path_units}
-use Rattle.dj_cli.specs.Output.{IsBroken, IsFilePiece}
+use Rattle.dj_report.specs.Report.{Broken, broken_text, line_text, path_units}
+use Rattle.dj_load.specs.HeldFiles.{IsBroken}
+use Rattle.dj_cli.specs.Output.{IsFilePiece}
 use Rattle.dj_cli.proofs.TellingLemmas.{back-some, cuts-line, tells-line}
 use Rattle.dj_cli.proofs.telling.tell_broken.Goals as goal
 

@@ -2,9 +2,9 @@ use Rattle.std.proofs.Common.{◌≡◌, ◌<◌, length, map, sym, ◌∙◌, s
 use Rattle.std.specs.String.{string_bytes}
 use Rattle.std.proofs.lemmas.List.{length-map}
 use Rattle.std.proofs.lemmas.Result.{err_from_is_err_and}
-use Rattle.dj_cli.specs.Loading.{all_found, found_of}
+use Rattle.dj_load.specs.Loading.{all_found, found_of}
 use Rattle.dj_cli.specs.Output.{ToldFirst}
-use Rattle.dj_cli.proofs.LoadingLemmas.{name_at}
+use Rattle.dj_load.proofs.LoadingLemmas.{name_at}
 use Rattle.dj_cli.proofs.TellingLemmas.{stops_telling, told_all, told_more, told_none}
 use Rattle.dj_cli.proofs.telling.tell_files.Goals as goal
 

@@ -1,6 +1,6 @@
 use Rattle.std.proofs.Common.{◌≤◌, map}
 use Rattle.std.specs.String.{string_bytes}
-use Rattle.dj_cli.specs.Loading.{all_found}
+use Rattle.dj_load.specs.Loading.{all_found}
 use Rattle.dj_cli.specs.Output.{ToldFirst}
 use Rattle.dj_cli.proofs.telling.tell_files.Given as goal
 

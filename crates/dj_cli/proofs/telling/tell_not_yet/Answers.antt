@@ -1,7 +1,7 @@
 use Rattle.std.proofs.Common.{[], ◌++◌, codes, refl}
 use Rattle.dj_names.specs.Shown.{show_units}
 use Rattle.dj_class.specs.Views.{view_class}
-use Rattle.dj_cli.specs.Report.{NotYetClass, line_text}
+use Rattle.dj_report.specs.Report.{NotYetClass, line_text}
 use Rattle.dj_cli.specs.Output.{IsClassPiece, not_yet}
 use Rattle.dj_cli.proofs.TellingLemmas.{back-some, cuts-line, tells-line}
 use Rattle.dj_cli.proofs.telling.tell_not_yet.Goals as goal

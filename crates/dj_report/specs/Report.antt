@@ -1,0 +1,66 @@
+-- The lines of the report.
+use Rattle.std.specs.Prelude.{ℕ, List, [], ◌∷◌, ◌++◌, codes}
+use Rattle.std.specs.List.{flat_map}
+use Rattle.std.specs.Str.{chars}
+use Rattle.std.specs.Char.Escape.{encode_utf16}
+use Rattle.std.specs.Fmt.{decimal}
+use Rattle.dj_names.specs.Types.{Descriptor}
+use Rattle.dj_names.specs.Descriptors.{spell_descriptor}
+use Rattle.dj_names.specs.Shown.{show_units}
+use Rattle.dj_pool.specs.declared.fault.BrokenKind.{BrokenKind}
+use Rattle.dj_pool.specs.declared.fault.BrokenKind.TheVariants as broken
+use Rattle.dj_report.specs.declared.status.UsageKind.{UsageKind}
+use Rattle.dj_report.specs.declared.status.UsageKind.TheVariants as kind
+
+-- a line of the report: on a class by its name, on a method by its class's name, its own name and its
+-- descriptor, with an offset in its code, on a file that is broken by its path, with what is wrong and an
+-- offset, on the words, and on a file by its place
+pub data Line : Type 0 where
+  NotYetClass : List ℕ → Line
+  NotYetMethod : List ℕ → List ℕ → Descriptor → ℕ → Line
+  Broken : List ℕ → BrokenKind → ℕ → Line
+  Usage : UsageKind → Line
+  Read : ℕ → Line
+  Much : ℕ → Line
+
+-- the UTF-16 units of a path
+abbrev pub path_units : List ℕ → List ℕ
+path_units path = flat_map encode_utf16 (chars path)
+
+-- the word for what is wrong with words
+abbrev pub kind_text : UsageKind → List ℕ
+kind_text kind.Words = codes "Words"
+kind_text kind.NoFile = codes "NoFile"
+kind_text kind.TwoOrders = codes "TwoOrders"
+kind_text kind.Number = codes "Number"
+
+-- the word for what is wrong with a class file
+abbrev pub broken_text : BrokenKind → List ℕ
+broken_text broken.Short = codes "Short"
+broken_text broken.Magic = codes "Magic"
+broken_text broken.Version = codes "Version"
+broken_text broken.Tag = codes "Tag"
+broken_text broken.Index = codes "Index"
+broken_text broken.Units = codes "Units"
+broken_text broken.Descriptor = codes "Descriptor"
+broken_text broken.Trailing = codes "Trailing"
+broken_text broken.Attribute = codes "Attribute"
+broken_text broken.Flags = codes "Flags"
+
+-- how a line names a method of a class
+abbrev pub shown_method : List ℕ → List ℕ → Descriptor → List ℕ
+shown_method class name descriptor = show_units class ++ codes "." ++ show_units name ++ show_units (spell_descriptor descriptor)
+
+-- the end of the line on a method that isn't straight at this offset of its code
+abbrev pub not_yet_tail : ℕ → List ℕ
+not_yet_tail pc = codes " notyet " ++ decimal pc ++ 10 ∷ []
+
+-- a line with its end
+abbrev pub line_text : Line → List ℕ
+line_text (NotYetClass class) = show_units class ++ codes " notyet" ++ 10 ∷ []
+line_text (NotYetMethod class name descriptor pc) = shown_method class name descriptor ++ not_yet_tail pc
+line_text (Broken path kind offset) =
+    show_units (path_units path) ++ codes " broken " ++ broken_text kind ++ codes " " ++ decimal offset ++ 10 ∷ []
+line_text (Usage kind) = codes "usage " ++ kind_text kind ++ 10 ∷ []
+line_text (Read place) = codes "read " ++ decimal place ++ 10 ∷ []
+line_text (Much place) = codes "much " ++ decimal place ++ 10 ∷ []

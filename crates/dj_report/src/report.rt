@@ -1,0 +1,123 @@
+//! The lines of the report: those that are made whole, and those on classes and methods, which are put piece by piece.
+
+ghost use Rattle.std.specs.Prelude.{◌≡◌, ◌++◌, IfOk, string_bytes};
+ghost use Rattle.dj_names.specs.Types.{view_descriptor};
+ghost use Rattle.dj_outer.specs.Sink.{Puts};
+ghost use Rattle.dj_report.specs.Report.{Line, broken_text, kind_text, line_text, not_yet_tail, path_units, shown_method};
+
+use crate::putting::{put_descriptor, put_piece, put_units};
+use crate::status::UsageKind;
+use dj_names::{ClassName, Descriptor, Units};
+use dj_outer::{Failed, Sink};
+use dj_pool::BrokenKind;
+use std::alloc::{AllocError, Global};
+
+/// The UTF-16 units of a path.
+fn path_units(alloc: Global, path: &str) -> Result<Units, AllocError>
+    ensures units { IfOk result (λ units. units ≡ path_units path.now) }
+{
+    let mut units = Vec::new(alloc);
+    for character in path.chars() {
+        units.extend_from_slice(character.encode_utf16(&mut [0; 2]))?;
+    }
+    let units = Units::from_vec(units)?;
+    Ok(units)
+}
+
+/// The word for what is wrong with a class file.
+fn broken_text(kind: BrokenKind) -> &'static str
+    ensures text { result.now ≡ broken_text kind }
+{
+    match kind {
+        BrokenKind::Short => "Short",
+        BrokenKind::Magic => "Magic",
+        BrokenKind::Version => "Version",
+        BrokenKind::Tag => "Tag",
+        BrokenKind::Index => "Index",
+        BrokenKind::Units => "Units",
+        BrokenKind::Descriptor => "Descriptor",
+        BrokenKind::Trailing => "Trailing",
+        BrokenKind::Attribute => "Attribute",
+        BrokenKind::Flags => "Flags",
+    }
+}
+
+/// The line on a file of this path that is broken.
+pub fn broken_line(
+    alloc: Global,
+    path: &str,
+    kind: BrokenKind,
+    offset: u32,
+) -> Result<Vec<u8>, AllocError>
+    ensures line { IfOk result (λ line. line.items ≡ line_text (Line.Broken path.now kind offset)) }
+{
+    let path = path_units(alloc, path)?;
+    let kind = broken_text(kind);
+    Ok(format!(in alloc; "{path} broken {kind} {offset}\n")?.into_bytes())
+}
+
+/// Puts the line on a class of which nothing is printed yet.
+pub fn put_class_line<P: Sink>(report: &mut P, class: &ClassName) -> Result<(), Failed>
+    ensures puts { Puts result (P.taken report.old) (P.taken report.new) (P.faults report.old) (P.faults report.new) (line_text (Line.NotYetClass class.now)) }
+{
+    put_units(report, class.as_slice())?;
+    put_piece(report, b" notyet\n")
+}
+
+/// The end of the line on a method that isn't straight at this offset of its code.
+pub fn not_yet_tail(alloc: Global, pc: u32) -> Result<String, AllocError>
+    ensures tail { IfOk result (λ tail. string_bytes tail ≡ not_yet_tail pc) }
+{
+    format!(in alloc; " notyet {pc}\n")
+}
+
+/// Puts the line on a method of a class, by its name and its descriptor; the line ends so.
+pub fn put_method_line<P: Sink>(
+    report: &mut P,
+    class: &ClassName,
+    name: &Units,
+    descriptor: &Descriptor,
+    tail: &str,
+) -> Result<(), Failed>
+    ensures puts { Puts result (P.taken report.old) (P.taken report.new) (P.faults report.old) (P.faults report.new) (shown_method class.now name.now (view_descriptor descriptor.now) ++ tail.now) }
+{
+    put_units(report, class.as_slice())?;
+    put_piece(report, b".")?;
+    put_units(report, name.as_slice())?;
+    put_descriptor(report, descriptor)?;
+    put_piece(report, tail.as_bytes())
+}
+
+/// The line on the words.
+pub fn usage_line(alloc: Global, kind: UsageKind) -> Result<Vec<u8>, AllocError>
+    ensures line { IfOk result (λ line. line.items ≡ line_text (Line.Usage kind)) }
+{
+    let kind = kind_text(kind);
+    Ok(format!(in alloc; "usage {kind}\n")?.into_bytes())
+}
+
+/// The word for what is wrong with words.
+fn kind_text(kind: UsageKind) -> &'static str
+    ensures text { result.now ≡ kind_text kind }
+{
+    match kind {
+        UsageKind::Words => "Words",
+        UsageKind::NoFile => "NoFile",
+        UsageKind::TwoOrders => "TwoOrders",
+        UsageKind::Number => "Number",
+    }
+}
+
+/// The line on a file that couldn't be read, by its place.
+pub fn read_line(alloc: Global, place: u32) -> Result<Vec<u8>, AllocError>
+    ensures line { IfOk result (λ line. line.items ≡ line_text (Line.Read place)) }
+{
+    Ok(format!(in alloc; "read {place}\n")?.into_bytes())
+}
+
+/// The line on a file that is too large, by its place.
+pub fn much_line(alloc: Global, place: u32) -> Result<Vec<u8>, AllocError>
+    ensures line { IfOk result (λ line. line.items ≡ line_text (Line.Much place)) }
+{
+    Ok(format!(in alloc; "much {place}\n")?.into_bytes())
+}

@@ -1,0 +1,53 @@
+//! How a run of the program ends.
+
+ghost use Rattle.std.specs.Prelude.{◌≡◌};
+
+/// What is wrong with the words.
+#[derive(Clone, Copy, Debug, PartialEq, Eq)]
+pub enum UsageKind {
+    /// The command doesn't take them.
+    Words,
+    /// They name no file.
+    NoFile,
+    /// They give two orders.
+    TwoOrders,
+    /// A number isn't one.
+    Number,
+}
+
+/// How a run ended; its exit statuses are 0 to 6 in this order. A place is that of a file in the order of loading.
+#[derive(Clone, Copy, Debug, PartialEq, Eq)]
+pub enum Status {
+    /// Everything was printed.
+    Clean,
+    /// The report has a line.
+    Refused,
+    Usage(UsageKind),
+    /// A file couldn't be read.
+    ReadFault(u32),
+    /// The text couldn't be written.
+    TextFault,
+    /// The report couldn't be written.
+    ReportFault,
+    /// A file is too large.
+    TooMuch(u32),
+}
+
+impl Status {
+    ghost use Rattle.dj_report.specs.Status.{exit_code_of};
+
+    /// The exit status of the program.
+    pub fn exit_code(&self) -> u8
+        ensures code { result ≡ exit_code_of self.now }
+    {
+        match self {
+            Status::Clean => 0,
+            Status::Refused => 1,
+            Status::Usage(_) => 2,
+            Status::ReadFault(_) => 3,
+            Status::TextFault => 4,
+            Status::ReportFault => 5,
+            Status::TooMuch(_) => 6,
+        }
+    }
+}
