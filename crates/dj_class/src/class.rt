@@ -10,8 +10,9 @@ ghost use Rattle.dj_class.specs.FileParts.{ReadsFile};
 use crate::copies::{copy_fields, copy_methods};
 use crate::fault::{ClassFault, fault_of};
 use crate::front::read_front;
-use crate::listed::sound_at;
+use crate::listed::{Members, sound_at};
 use crate::method::Method;
+use crate::own::OwnNames;
 use dj_layout::Stop;
 use dj_names::{ClassName, Field, Items, copy_names};
 use dj_pool::{BrokenKind, Pool};
@@ -36,17 +37,45 @@ impl ClassFile {
     pub fn copy(&self, alloc: Global) -> Result<ClassFile, AllocError>
         ensures equal { IfOk result (λ copy. copy ≡ self.now) }
     {
+        // Each part is one value till all are there, so that an exit between them drops little.
+        let pool = self.pool.copy(alloc)?;
+        let own = self.copy_own(alloc)?;
+        let members = self.copy_members(alloc)?;
+        Ok(ClassFile {
+            minor: self.minor,
+            major: self.major,
+            pool,
+            flags: own.flags,
+            this_class: own.this_class,
+            super_class: own.super_class,
+            interfaces: members.interfaces,
+            fields: members.fields,
+            methods: members.methods,
+        })
+    }
+
+    fn copy_own(&self, alloc: Global) -> Result<OwnNames, AllocError>
+        ensures flags { IfOk result (λ own. own.flags ≡ self.now.flags) }
+        ensures class { IfOk result (λ own. own.this_class ≡ self.now.this_class) }
+        ensures superclass { IfOk result (λ own. own.super_class ≡ self.now.super_class) }
+    {
         let super_class = match &self.super_class {
             Some(name) => Some(name.copy(alloc)?),
             None => None,
         };
-        Ok(ClassFile {
-            minor: self.minor,
-            major: self.major,
-            pool: self.pool.copy(alloc)?,
+        Ok(OwnNames {
             flags: self.flags,
             this_class: self.this_class.copy(alloc)?,
             super_class,
+        })
+    }
+
+    fn copy_members(&self, alloc: Global) -> Result<Members, AllocError>
+        ensures interfaces { IfOk result (λ members. members.interfaces ≡ self.now.interfaces) }
+        ensures fields { IfOk result (λ members. members.fields ≡ self.now.fields) }
+        ensures methods { IfOk result (λ members. members.methods ≡ self.now.methods) }
+    {
+        Ok(Members {
             interfaces: copy_names(alloc, self.interfaces.as_slice())?,
             fields: copy_fields(alloc, self.fields.as_slice())?,
             methods: copy_methods(alloc, self.methods.as_slice())?,

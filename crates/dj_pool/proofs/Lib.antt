@@ -8,5 +8,6 @@ pub mod PoolIsExact
 pub mod PoolIsFiner
 pub mod PoolTables
 pub mod PoolTexts
+pub mod Pairs
 pub mod PoolReading
 pub mod AttributeContents

@@ -1,5 +1,5 @@
--- What is kept of each text of a pool, so that it is judged once.
-use Rattle.std.specs.Prelude.{◌↔◌, ℕ, List, Option, Some, None, Bool, true, false, IsTrue, IsSomeAnd}
+-- What is kept of each text of a pool, so that it is judged once, and which entries have two indices.
+use Rattle.std.specs.Prelude.{◌↔◌, ℕ, List, Option, Some, None, Bool, true, false, ◌||◌, ◌&&◌, ◌==◌, nat_le, IsTrue, IsSomeAnd}
 use Rattle.std.specs.List.{AllZip}
 use Rattle.dj_names.specs.declared.descriptor.Descriptor as code_descriptor
 use Rattle.dj_names.specs.Types.{JType, Boolean, Byte, Char, Short, Int, Long, Float, Double, Class, Array, Descriptor, view_descriptor}
@@ -35,3 +35,7 @@ is_array_type Float = false
 is_array_type Double = false
 is_array_type (Class name) = false
 is_array_type (Array element) = true
+
+-- the tags of the entries of two indices
+abbrev pub is_pair : ℕ → Bool
+is_pair tag = (nat_le 9 tag && nat_le tag 12) || (tag == 18)

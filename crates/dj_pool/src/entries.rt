@@ -7,7 +7,8 @@ ghost use Rattle.dj_layout.specs.Parts.{number, tested};
 ghost use Rattle.dj_layout.specs.Passes.{asked};
 ghost use Rattle.dj_pool.specs.declared.fault.BrokenKind.TheVariants.{Short, Index, Tag};
 ghost use Rattle.dj_pool.specs.declared.entry.Entry as spec;
-ghost use Rattle.dj_pool.specs.PoolFormat.{utf8, text, asked_number, behind, content_of, tag_of, places, is_tag, tag_within, entries, pool, IsFound, LeadsRight};
+ghost use Rattle.dj_pool.specs.PoolFormat.{Two, utf8, text, asked_number, behind, content_of, entry_with, tag_of, places, is_tag, tag_within, IsFound, LeadsRight};
+ghost use Rattle.dj_pool.specs.PoolTable.{is_pair};
 
 use crate::entry::{Ask, Entry};
 use crate::fault::BrokenKind;
@@ -219,69 +220,35 @@ pub fn method_type_at<'a>(
     Ok((Entry::MethodType(descriptor), rest))
 }
 
-/// What follows the tag of a Fieldref.
-pub fn field_ref_at<'a>(
-    given: Option<&Pool>,
-    bytes: &'a [u8],
-    end: usize,
-) -> Result<(Entry, &'a [u8]), Stop<BrokenKind>>
-    ensures reads { Reads (behind (option_copied given.entry) 9 (content_of 9)) (λ x. (x.0, x.1.now)) end bytes.now result }
+/// The entry of this tag with two indices.
+fn pair(tag: u8, first: u16, second: u16) -> Entry
+    requires tag { IsTrue (is_pair tag) }
+    ensures entry { result ≡ entry_with tag first second }
 {
-    let (class, rest) = index_at(given, Ask::Class, bytes, end)?;
-    let (member, rest) = index_at(given, Ask::FieldMember, rest, end)?;
-    Ok((Entry::FieldRef(class, member), rest))
+    match tag {
+        9 => Entry::FieldRef(first, second),
+        10 => Entry::MethodRef(first, second),
+        11 => Entry::InterfaceMethodRef(first, second),
+        12 => Entry::NameAndType(first, second),
+        _ => Entry::InvokeDynamic(first, second),
+    }
 }
 
-/// What follows the tag of a Methodref.
-pub fn method_ref_at<'a>(
+/// What follows the tag of an entry of two indices, of which this is asked.
+pub fn pair_at<'a>(
     given: Option<&Pool>,
+    tag: u8,
+    first: Ask,
+    second: Ask,
     bytes: &'a [u8],
     end: usize,
 ) -> Result<(Entry, &'a [u8]), Stop<BrokenKind>>
-    ensures reads { Reads (behind (option_copied given.entry) 10 (content_of 10)) (λ x. (x.0, x.1.now)) end bytes.now result }
+    requires tag { IsTrue (is_pair tag) }
+    ensures reads { Reads (behind (option_copied given.entry) tag (Two 2 first 2 second)) (λ x. (x.0, x.1.now)) end bytes.now result }
 {
-    let (class, rest) = index_at(given, Ask::Class, bytes, end)?;
-    let (member, rest) = index_at(given, Ask::MethodMember, rest, end)?;
-    Ok((Entry::MethodRef(class, member), rest))
-}
-
-/// What follows the tag of an InterfaceMethodref.
-pub fn interface_method_ref_at<'a>(
-    given: Option<&Pool>,
-    bytes: &'a [u8],
-    end: usize,
-) -> Result<(Entry, &'a [u8]), Stop<BrokenKind>>
-    ensures reads { Reads (behind (option_copied given.entry) 11 (content_of 11)) (λ x. (x.0, x.1.now)) end bytes.now result }
-{
-    let (class, rest) = index_at(given, Ask::Class, bytes, end)?;
-    let (member, rest) = index_at(given, Ask::MethodMember, rest, end)?;
-    Ok((Entry::InterfaceMethodRef(class, member), rest))
-}
-
-/// What follows the tag of a NameAndType.
-pub fn name_and_type_at<'a>(
-    given: Option<&Pool>,
-    bytes: &'a [u8],
-    end: usize,
-) -> Result<(Entry, &'a [u8]), Stop<BrokenKind>>
-    ensures reads { Reads (behind (option_copied given.entry) 12 (content_of 12)) (λ x. (x.0, x.1.now)) end bytes.now result }
-{
-    let (name, rest) = index_at(given, Ask::Text, bytes, end)?;
-    let (descriptor, rest) = index_at(given, Ask::AnyText, rest, end)?;
-    Ok((Entry::NameAndType(name, descriptor), rest))
-}
-
-/// What follows the tag of an InvokeDynamic.
-pub fn invoke_dynamic_at<'a>(
-    given: Option<&Pool>,
-    bytes: &'a [u8],
-    end: usize,
-) -> Result<(Entry, &'a [u8]), Stop<BrokenKind>>
-    ensures reads { Reads (behind (option_copied given.entry) 18 (content_of 18)) (λ x. (x.0, x.1.now)) end bytes.now result }
-{
-    let (bootstrap, rest) = index_at(given, Ask::Free, bytes, end)?;
-    let (member, rest) = index_at(given, Ask::MethodMember, rest, end)?;
-    Ok((Entry::InvokeDynamic(bootstrap, member), rest))
+    let (one, rest) = index_at(given, first, bytes, end)?;
+    let (other, rest) = index_at(given, second, rest, end)?;
+    Ok((pair(tag, one, other), rest))
 }
 
 /// What follows the tag of a MethodHandle.

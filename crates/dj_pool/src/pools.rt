@@ -9,11 +9,10 @@ ghost use Rattle.dj_pool.specs.SharedParts.{u2};
 ghost use Rattle.dj_pool.specs.PoolFormat.{behind, content_of, tag_of, places, is_tag, entry_within, spread, entries, pool};
 
 use crate::entries::{
-    class_at, double_at, field_ref_at, float_at, integer_at, interface_method_ref_at,
-    invoke_dynamic_at, long_at, method_handle_at, method_ref_at, method_type_at, name_and_type_at,
+    class_at, double_at, float_at, integer_at, long_at, method_handle_at, method_type_at, pair_at,
     places, string_at, tag_at, utf8_entry_at,
 };
-use crate::entry::Entry;
+use crate::entry::{Ask, Entry};
 use crate::fault::BrokenKind;
 use crate::pool::Pool;
 use dj_layout::{Stop, fault_at, u16_at};
@@ -40,13 +39,13 @@ fn behind_at<'a>(
         6 => double_at(bytes, end),
         7 => class_at(given, bytes, end),
         8 => string_at(given, bytes, end),
-        9 => field_ref_at(given, bytes, end),
-        10 => method_ref_at(given, bytes, end),
-        11 => interface_method_ref_at(given, bytes, end),
-        12 => name_and_type_at(given, bytes, end),
+        9 => pair_at(given, 9, Ask::Class, Ask::FieldMember, bytes, end),
+        10 => pair_at(given, 10, Ask::Class, Ask::MethodMember, bytes, end),
+        11 => pair_at(given, 11, Ask::Class, Ask::MethodMember, bytes, end),
+        12 => pair_at(given, 12, Ask::Text, Ask::AnyText, bytes, end),
         15 => method_handle_at(given, bytes, end),
         16 => method_type_at(given, bytes, end),
-        _ => invoke_dynamic_at(given, bytes, end),
+        _ => pair_at(given, 18, Ask::Free, Ask::MethodMember, bytes, end),
     }
 }
 
