@@ -1,0 +1,2 @@
+-- What the crate keeps to itself.
+pub mod SlotTree
