@@ -3,6 +3,7 @@
 //! The layers above use `read_frames`, which answers the frames exactly where the table is right and else where its first fault is, `entry_frame`, `Slots`, and `copy` of each type.
 #![tactic(auto)]
 
+mod form;
 mod frame;
 mod slots;
 mod tag;
