@@ -1,2 +1,6 @@
 -- What the public contracts rest on, in reading order.
 pub mod Instructions
+pub mod RawInstructions
+pub mod PoolNames
+pub mod Meanings
+pub mod Listing

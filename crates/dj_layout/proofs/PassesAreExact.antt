@@ -1,11 +1,11 @@
 -- Parts of which more is asked, two passes, and sequences read in one way.
-use Rattle.std.proofs.Common.{◌≡◌, ℕ, Bool, List, [], ◌∷◌, ◌++◌, refl, sym, subst, ◌∙◌, append_assoc, inl, inr}
+use Rattle.std.proofs.Common.{◌≡◌, ℕ, Bool, List, [], ◌∷◌, ◌++◌, refl, sym, ap, subst, ◌∙◌, append_assoc, inl, inr}
 use Rattle.std.specs.Prelude.{IsTrue, IsFalse}
 use Rattle.std.specs.List.{flat_map}
 use Rattle.std.proofs.lemmas.List.{append-nil}
 use Rattle.dj_layout.specs.declared.fault.Fault.{Fault}
-use Rattle.dj_layout.specs.Layout.{Layout, Spells}
-use Rattle.dj_layout.specs.Passes.{asked, again, sequence, HaltsOrIsnt, HaltsAgain, HaltsInSequence, IsSequence}
+use Rattle.dj_layout.specs.Layout.{Layout, Spells, fault_of}
+use Rattle.dj_layout.specs.Passes.{asked, again, sequence, told_in_front, HaltsOrIsnt, HaltsAgain, HaltsInFront, HaltsInSequence, IsSequence}
 use Rattle.dj_layout.specs.Exact.{IsExact}
 
 asked_apart : {K A : Type 0} (part : Layout K A) (Asked : A → Type 0) (kind : K) → IsExact part
@@ -52,6 +52,20 @@ exact-again first second exact exacts same = record {
   unique = λ x y r s x_fits y_fits e. exact.unique x y r s x_fits.0 y_fits.0 e;
   apart = λ end x rest fault fits halts. again_apart first second exact exacts same end x rest fault fits.0 fits.1 halts;
   one_fault = λ end bytes f g f_halts g_halts. again_one first second exact exacts end bytes f g f_halts g_halts;
+}
+
+in_front_apart : {K A : Type 0} (part : Layout K A) → IsExact part → (end : ℕ) (x : A) (rest : List ℕ) (fault : Fault K) → part.Fits x → HaltsInFront part end (part.spell x ++ rest) fault → ⊥
+in_front_apart part exact end x rest fault fits (inner, halts, at) = exact.apart end x rest inner fits halts
+
+in_front_one : {K A : Type 0} (part : Layout K A) → IsExact part → (end : ℕ) (bytes : List ℕ) (f g : Fault K) → HaltsInFront part end bytes f → HaltsInFront part end bytes g → f ≡ g
+in_front_one {K = K} part exact end bytes f g (first, f_halts, f_at) (second, g_halts, g_at) =
+    f_at ∙ ap (λ (t : Fault K). fault_of end bytes t.kind) (exact.one_fault end bytes first second f_halts g_halts) ∙ sym g_at
+
+pub exact-told_in_front : {K A : Type 0} (part : Layout K A) → IsExact part → IsExact (told_in_front part)
+exact-told_in_front part exact = record {
+  unique = exact.unique;
+  apart = λ end x rest fault fits halts. in_front_apart part exact end x rest fault fits halts;
+  one_fault = λ end bytes f g f_halts g_halts. in_front_one part exact end bytes f g f_halts g_halts;
 }
 
 module _ {K A : Type 0} (spell : A → List ℕ) (enough : List A → Bool) (next : List A → Layout K A) (exact : (before : List A) → IsExact (next before))

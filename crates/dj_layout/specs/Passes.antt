@@ -30,6 +30,14 @@ again first second = record {
   Halts = HaltsAgain first second;
 }
 
+-- the part isn't there; whatever of it is wrong lies where the part begins
+abbrev pub HaltsInFront : {K A : Type 0} → Layout K A → ℕ → List ℕ → Fault K → Type 0
+HaltsInFront {K = K} part end bytes fault = (inner : Fault K) × part.Halts end bytes inner × (fault ≡ fault_of end bytes inner.kind)
+
+-- a part all of whose faults are told where it begins
+abbrev pub told_in_front : {K A : Type 0} → Layout K A → Layout K A
+told_in_front part = record { spell = part.spell; Fits = part.Fits; Halts = HaltsInFront part }
+
 -- each item is asked for, since those before it aren't enough, and is as they ask
 abbrev pub IsSequence : {K A : Type 0} → (List A → Bool) → (List A → Layout K A) → List A → List A → Type 0
 IsSequence enough next before [] = ⊤
