@@ -101,12 +101,13 @@ tag_of (Array element) = Object (Array element)
 abbrev pub has_unborn_this : Name → Name → Bool
 has_unborn_this class name = bytes_eq name (codes "<init>") && not (bytes_eq class object_name)
 
+-- what `this` is at the entry of a method that has one
+abbrev pub this_of : Name → MethodOf → Tag
+this_of class method = if has_unborn_this class method.name then UnbornThis else Object (Class class)
+
 -- what `this` is at the entry of a method, none where the method is static (ACC_STATIC, 0x0008)
 abbrev pub receiver_of : Name → MethodOf → List Tag
-receiver_of class method =
-    if bit_and method.flags 8 == 0
-    then ((if has_unborn_this class method.name then UnbornThis else Object (Class class)) ∷ [])
-    else []
+receiver_of class method = if bit_and method.flags 8 == 0 then this_of class method ∷ [] else []
 
 -- the values that a method's locals hold at its entry: `this`, and its parameters
 abbrev pub entry_values : Name → MethodOf → List Tag

@@ -16,7 +16,7 @@ use Rattle.dj_frames.specs.declared.form.Count.TheVariants as count
 use Rattle.dj_frames.specs.declared.form.Change.{Change}
 use Rattle.dj_frames.specs.declared.form.Change.TheVariants as change
 use Rattle.dj_frames.specs.declared.form.Form.{Form}
-use Rattle.dj_frames.specs.ClassTypes.{IsClassType}
+use Rattle.dj_instructions.specs.PoolNames.{NamesType}
 use Rattle.dj_frames.specs.Frames.{Tag, Top, Int, Float, Double, Long, Null, UnbornThis, Object, Unborn, Frame, frame_of}
 
 -- ---- what is written
@@ -109,7 +109,7 @@ pub record IsNewAt (instructions : Instructions) (pc : ℕ) : Type 0 where
 -- the tag that is meant: the number behind Object is the index of a Class entry, that behind Unborn the offset of a `new`
 pub data IsTagOf (pool : List Entry) (instructions : Instructions) (raw : RawTag) (tag : Tag) : Type 0 where
   plain : plain_tag raw.tag ≡ Some tag → IsTagOf pool instructions raw tag
-  object : (type : JType) → raw.tag ≡ 7 → IsClassType pool raw.number type → tag ≡ Object type → IsTagOf pool instructions raw tag
+  object : (type : JType) → raw.tag ≡ 7 → NamesType pool raw.number type → tag ≡ Object type → IsTagOf pool instructions raw tag
   unborn : raw.tag ≡ 8 → IsNewAt instructions raw.number → tag ≡ Unborn raw.number → IsTagOf pool instructions raw tag
 
 -- a tag that means something

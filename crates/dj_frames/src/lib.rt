@@ -3,11 +3,16 @@
 //! The layers above use `read_frames`, which answers the frames exactly where the table is right and else where its first fault is, `entry_frame`, `Slots`, and `copy` of each type.
 #![tactic(auto)]
 
+mod entry;
 mod form;
 mod frame;
+mod locals;
+mod places;
 mod slots;
 mod tag;
+mod tags;
 mod tree;
+mod written;
 
 pub use frame::Frame;
 pub use slots::Slots;
