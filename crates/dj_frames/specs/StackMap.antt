@@ -1,7 +1,9 @@
 -- A StackMapTable as a layout, what is asked of its frames, and what they say (JVMS 4.7.4).
-use Rattle.std.specs.Prelude.{◌≡◌, ◌≢◌, ◌⊎◌, ℕ, ◌+◌, ◌-◌, ◌≤◌, List, [], ◌∷◌, ◌++◌, length, take, Bool, ◌||◌, ◌==◌, nat_le, if◌then◌else◌, Option, Some, None, IsSome}
+use Rattle.std.specs.Prelude.{◌≡◌, ◌≢◌, ◌⊎◌, ℕ, ◌+◌, ◌-◌, ◌≤◌, List, [], ◌∷◌, ◌++◌, length, take, Bool, ◌||◌, ◌==◌, nat_le, if◌then◌else◌, Option, Some, None, IsSome, Result, Ok, Err, ⊤}
 use Rattle.std.specs.List.{AllZip}
 use Rattle.dj_layout.specs.declared.fault.Fault.{Fault}
+use Rattle.dj_layout.specs.declared.fault.Stop.{Stop}
+use Rattle.dj_layout.specs.declared.fault.Stop.TheVariants as stop
 use Rattle.dj_layout.specs.Layout.{Layout, Spells}
 use Rattle.dj_layout.specs.Parts.{number, exactly, headed, times, tested, choice}
 use Rattle.dj_layout.specs.Passes.{asked, sequence}
@@ -17,7 +19,8 @@ use Rattle.dj_frames.specs.declared.form.Change.{Change}
 use Rattle.dj_frames.specs.declared.form.Change.TheVariants as change
 use Rattle.dj_frames.specs.declared.form.Form.{Form}
 use Rattle.dj_instructions.specs.PoolNames.{NamesType}
-use Rattle.dj_frames.specs.Frames.{Tag, Top, Int, Float, Double, Long, Null, UnbornThis, Object, Unborn, Frame, frame_of}
+use Rattle.dj_frames.specs.Frames.{Tag, Top, Int, Float, Double, Long, Null, UnbornThis, Object, Unborn, Frame, frame_of, view_frames}
+use Rattle.dj_frames.specs.declared.frame.Frame as code_frame
 
 -- ---- what is written
 
@@ -233,3 +236,9 @@ pub data BreaksFrames (pool : List Entry) (instructions : Instructions) (values 
   broken : {content : List ℕ} {others : List (List ℕ)} {pc : ℕ} → BreaksAt pool instructions (length values) content pc → BreaksFrames pool instructions values (content ∷ others) pc
   second : {content other : List ℕ} {others : List (List ℕ)} {pc : ℕ} (raws : List RawFrame) → IsWhole (table pool instructions (length values)) content raws → pc ≡ last_offset raws
       → BreaksFrames pool instructions values (content ∷ other ∷ others) pc
+
+-- the frames that the tables of these contents have, their fault, or that memory ran out
+abbrev pub ReadsFrames : List Entry → Instructions → List Tag → List (List ℕ) → Result (List (ℕ × code_frame.Frame)) (Stop bad.BadKind) → Type 0
+ReadsFrames pool instructions values contents (Ok found) = AreFrames pool instructions values contents (view_frames found)
+ReadsFrames pool instructions values contents (Err stop.Memory) = ⊤
+ReadsFrames pool instructions values contents (Err (stop.Fault fault)) = (fault.kind ≡ kind.Frame) × BreaksFrames pool instructions values contents fault.offset

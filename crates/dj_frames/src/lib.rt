@@ -4,16 +4,21 @@
 #![tactic(auto)]
 
 mod entry;
+mod follow;
 mod form;
 mod frame;
+mod frames;
 mod locals;
 mod places;
 mod slots;
+mod table;
 mod tag;
 mod tags;
 mod tree;
 mod written;
 
+pub use entry::entry_frame;
 pub use frame::Frame;
+pub use frames::read_frames;
 pub use slots::Slots;
 pub use tag::Tag;

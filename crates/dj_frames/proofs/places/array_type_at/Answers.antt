@@ -8,7 +8,7 @@ use Rattle.dj_frames.proofs.places.array_type_at.Goals as goal
 
 pub returns-in-Some-Field : goal.returns-in-Some-Field
 returns-in-Some-Field c =
-    record { found = IfOk-weaker c.array_of.result _ _ (λ (found : Option JType) finds. array_found (text_at c.args.pool.now c.args.index) (view_type c.in-Some-Field.kind) (option_map view_type found) c.in-Some-Field.ensures.read finds) c.array_of.ensures.found }
+    record { found = IfOk-weaker c.array_of.result _ _ (λ (found : Option JType) finds. array_found (text_at c.args.pool.now c.args.index) (view_type c.in-Some-Field.kind) (option_map view_type found) (rw c.in-Some-Field.field-0-is at c.in-Some-Field.ensures.read) finds) c.array_of.ensures.found }
 
 pub returns-in-None : goal.returns-in-None
 returns-in-None c = record { found = no_array (text_at c.args.pool.now c.args.index) c.in-None.ensures.read }
