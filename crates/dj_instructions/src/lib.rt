@@ -3,6 +3,7 @@
 //! The layers above use `read_instructions`, which answers the instructions exactly where the bytes are some and else their first fault, `instruction_at`, and `copy` of each type.
 #![tactic(auto)]
 
+mod alone;
 mod form;
 mod instruction;
 mod kinds;
