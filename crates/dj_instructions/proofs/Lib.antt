@@ -1,3 +1,4 @@
 pub mod Examples
 pub mod RawIsExact
 pub mod ListingIsOne
+pub mod PoolLookups

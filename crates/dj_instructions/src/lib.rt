@@ -6,8 +6,11 @@
 mod alone;
 mod form;
 mod instruction;
+mod jumps;
 mod kinds;
+mod pool_names;
 mod references;
+mod types;
 
 pub use instruction::Instruction;
 pub use kinds::{BadKind, Calc, Element, Kind, Test};
