@@ -82,13 +82,13 @@ one_descriptor_of : (units : Option (List ℕ)) (a b : Descriptor) → IsSomeAnd
 one_descriptor_of None a b first second = absurd first
 one_descriptor_of (Some units) a b first second = one_spelled units a b first second
 
-one_descriptor : (pool : List Entry) (index : ℕ) (a b : Descriptor) → NamesDescriptor pool index a → NamesDescriptor pool index b → a ≡ b
+pub one_descriptor : (pool : List Entry) (index : ℕ) (a b : Descriptor) → NamesDescriptor pool index a → NamesDescriptor pool index b → a ≡ b
 one_descriptor pool index a b first second = one_descriptor_of (text_at pool index) a b first second
 
 member_with : List ℕ → Descriptor → Member
 member_with name descriptor = record { name = name; descriptor = descriptor }
 
-one_member : (pool : List Entry) (index : ℕ) (a b : Member) → NamesMember pool index a → NamesMember pool index b → a ≡ b
+pub one_member : (pool : List Entry) (index : ℕ) (a b : Member) → NamesMember pool index a → NamesMember pool index b → a ≡ b
 unfolding member_with
 one_member pool index a b first second =
     let entries : Some (entry.NameAndType first.name_index first.descriptor_index) ≡ Some (entry.NameAndType second.name_index second.descriptor_index) = sym first.there ∙ second.there in
@@ -102,7 +102,7 @@ one_member pool index a b first second =
 reference_with : ℕ → JType → Member → Reference
 reference_with tag owner member = record { tag = tag; owner = owner; member = member }
 
-one_reference : (pool : List Entry) (index : ℕ) (a b : Reference) → NamesReference pool index a → NamesReference pool index b → a ≡ b
+pub one_reference : (pool : List Entry) (index : ℕ) (a b : Reference) → NamesReference pool index a → NamesReference pool index b → a ≡ b
 unfolding reference_with
 one_reference pool index a b first second =
     let entries : Some first.found ≡ Some second.found = sym first.there ∙ second.there in

@@ -6,3 +6,4 @@ pub mod Meanings
 pub mod Listing
 -- What the functions inside the crate promise each other.
 pub mod PoolParts
+pub mod Answers

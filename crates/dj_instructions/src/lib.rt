@@ -4,6 +4,7 @@
 #![tactic(auto)]
 
 mod alone;
+mod constants;
 mod form;
 mod instruction;
 mod jumps;
