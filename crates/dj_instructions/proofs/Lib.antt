@@ -2,3 +2,4 @@ pub mod Examples
 pub mod RawIsExact
 pub mod ListingIsOne
 pub mod PoolLookups
+pub mod Meant

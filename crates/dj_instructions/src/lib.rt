@@ -9,6 +9,8 @@ mod form;
 mod instruction;
 mod jumps;
 mod kinds;
+mod members;
+mod objects;
 mod pool_names;
 mod references;
 mod types;

@@ -1,4 +1,4 @@
-//! How many dimensions types have, and the instructions that make arrays and objects (JVMS 6.5).
+//! How many dimensions types have (JVMS 4.3.2).
 
 ghost use Rattle.std.specs.Prelude.{◌≡◌, ◌+◌, nat_le, IfSome, IfNone};
 ghost use Rattle.dj_names.specs.Types.{view_type};
