@@ -4,3 +4,6 @@ pub mod RawInstructions
 pub mod PoolNames
 pub mod Meanings
 pub mod Listing
+-- What the functions inside the crate promise each other.
+pub mod PoolParts
+pub mod Answers

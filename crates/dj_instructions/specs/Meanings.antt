@@ -202,16 +202,23 @@ long_constant (Some (entry.InvokeDynamic bootstrap member)) = None
 
 -- ---- fields and methods
 
--- the field of a Fieldref
-abbrev pub field_with : ℕ → JType → List ℕ → Descriptor → Option FieldRef
-field_with tag owner name (Field kind) = if tag == 9 then Some (record { owner = owner; name = name; kind = kind }) else None
-field_with tag owner name (Method parameters result) = None
+-- the field of a descriptor, if it is a field's
+abbrev pub field_with : JType → List ℕ → Descriptor → Option FieldRef
+field_with owner name (Field kind) = Some (record { owner = owner; name = name; kind = kind })
+field_with owner name (Method parameters result) = None
 
--- the method of a Methodref (10) or an InterfaceMethodref (11)
-abbrev pub method_with : ℕ → JType → List ℕ → Descriptor → Option MethodRef
-method_with tag owner name (Field kind) = None
-method_with tag owner name (Method parameters result) =
-    if is_in_range 10 11 tag then Some (record { owner = owner; interface = tag == 11; name = name; descriptor = Method parameters result }) else None
+-- the method of a descriptor, if it is a method's
+abbrev pub method_with : JType → Bool → List ℕ → Descriptor → Option MethodRef
+method_with owner interface name (Field kind) = None
+method_with owner interface name (Method parameters result) = Some (record { owner = owner; interface = interface; name = name; descriptor = Method parameters result })
+
+-- the field of a Fieldref
+abbrev pub field_of : Reference → Option FieldRef
+field_of r = if r.tag == 9 then field_with r.owner r.member.name r.member.descriptor else None
+
+-- the method of a Methodref or an InterfaceMethodref
+abbrev pub method_of : Reference → Option MethodRef
+method_of r = if (r.tag == 10) || (r.tag == 11) then method_with r.owner (r.tag == 11) r.member.name r.member.descriptor else None
 
 -- an access to a field
 abbrev pub access : ℕ → FieldRef → Option Instruction
@@ -224,32 +231,32 @@ access op field =
 
 -- an access to the field that a reference leads to
 abbrev pub access_of : ℕ → Reference → Option Instruction
-access_of op r = option_and_then (access op) (field_with r.tag r.owner r.member.name r.member.descriptor)
+access_of op r = option_and_then (access op) (field_of r)
 
 -- a constructor's name (JVMS 2.9)
-abbrev pub is_init : List ℕ → Bool
-is_init name = bytes_eq name (codes "<init>")
+abbrev pub is_constructor : List ℕ → Bool
+is_constructor name = bytes_eq name (codes "<init>")
 
 -- a static initialiser's name (JVMS 2.9)
-abbrev pub is_clinit : List ℕ → Bool
-is_clinit name = bytes_eq name (codes "<clinit>")
+abbrev pub is_initialiser : List ℕ → Bool
+is_initialiser name = bytes_eq name (codes "<clinit>")
 
 -- a name that a call may have which isn't that of a constructor (JVMS 4.9.1)
 abbrev pub is_plain_name : List ℕ → Bool
-is_plain_name name = not (is_init name || is_clinit name)
+is_plain_name name = not (is_constructor name || is_initialiser name)
 
 -- a call of a method (JVMS 4.9.1)
 abbrev pub call : ℕ → MethodRef → Option Instruction
 call op method =
     if op == 182 then (if is_plain_name method.name && not method.interface then Some (InvokeVirtual method) else None)  -- `invokevirtual`
-    else (if op == 183 then (if is_clinit method.name then None else Some (InvokeSpecial method))  -- `invokespecial`
+    else (if op == 183 then (if is_initialiser method.name then None else Some (InvokeSpecial method))  -- `invokespecial`
     else (if op == 184 then (if is_plain_name method.name then Some (InvokeStatic method) else None)  -- `invokestatic`
     else (if op == 185 then (if is_plain_name method.name && method.interface then Some (InvokeInterface method) else None)  -- `invokeinterface`
     else None)))
 
 -- a call of the method that a reference leads to
 abbrev pub call_of : ℕ → Reference → Option Instruction
-call_of op r = option_and_then (call op) (method_with r.tag r.owner r.member.name r.member.descriptor)
+call_of op r = option_and_then (call op) (method_of r)
 
 -- a call site of a method's descriptor (JVMS 6.5, `invokedynamic`)
 abbrev pub dynamic_call : ℕ → List ℕ → Descriptor → Option Instruction
@@ -302,9 +309,13 @@ sized_array sizes type = if is_in_range 1 (dimensions type) sizes then Some (Mul
 abbrev pub primitives : List JType
 primitives = Boolean ∷ Char ∷ Float ∷ Double ∷ Byte ∷ Short ∷ Int ∷ Long ∷ []
 
+-- the type that an operand of `newarray` stands for
+abbrev pub primitive_of : ℕ → Option JType
+primitive_of x = if nat_le 4 x then slice_get primitives (x - 4) else None
+
 -- `newarray` with this operand
 abbrev pub primitive_array : ℕ → Option Instruction
-primitive_array x = if nat_le 4 x then option_map NewArray (slice_get primitives (x - 4)) else None
+primitive_array x = option_map NewArray (primitive_of x)
 
 -- ---- by form
 

@@ -4,8 +4,11 @@ use Rattle.std.specs.Int.{is_in_range}
 use Rattle.dj_names.specs.Types.{JType, Boolean, Byte, Char, Short, Int, Long, Float, Double, Class, Array, Descriptor, Field, Method}
 use Rattle.dj_names.specs.ClassNames.{IsClassName}
 use Rattle.dj_names.specs.Descriptors.{SpellsDescriptor}
+use Rattle.dj_names.specs.Types.{view_type, view_descriptor}
 use Rattle.dj_class.specs.declared.entry.Entry.{Entry}
 use Rattle.dj_class.specs.declared.entry.Entry.TheVariants as entry
+use Rattle.dj_instructions.specs.declared.pool_names.Member as code_member
+use Rattle.dj_instructions.specs.declared.pool_names.Reference as code_reference
 use Rattle.dj_class.specs.PoolFormat.{tag_of, first_of, second_of, text_at, class_at}
 
 -- the value of which this holds, None where it holds of none
@@ -61,3 +64,11 @@ pub record NamesReference (pool : List Entry) (index : ℕ) (reference : Referen
   pub tag : reference.tag ≡ tag_of found
   pub owner : NamesType pool (first_of found) reference.owner
   pub member : NamesMember pool (second_of found) reference.member
+
+-- a name and a descriptor of the code, seen as plain data
+abbrev pub view_member : code_member.Member → Member
+view_member member = record { name = member.name; descriptor = view_descriptor member.descriptor }
+
+-- a reference of the code, seen as plain data
+abbrev pub view_reference : code_reference.Reference → Reference
+view_reference reference = record { tag = reference.tag; owner = view_type reference.owner; member = view_member reference.member }
