@@ -11,13 +11,23 @@ use Rattle.dj_class.proofs.RestParts.{four_texts}
 use Rattle.dj_instructions.specs.declared.kinds.BadKind.{BadKind}
 use Rattle.dj_instructions.specs.declared.kinds.BadKind.TheVariants as kind
 use Rattle.dj_instructions.specs.Instructions.{Instructions}
+use Rattle.dj_frames.specs.declared.form.Count.{Count}
+use Rattle.dj_frames.specs.declared.form.Count.TheVariants as count
 use Rattle.dj_frames.specs.declared.form.Form.{Form}
 use Rattle.dj_frames.specs.Frames.{Tag}
-use Rattle.dj_frames.specs.StackMap.{RawTag, Item, IsTagOf, IsItemOf, u1, is_kind, form_of, delta, many, tag, frame_with}
+use Rattle.dj_frames.specs.StackMap.{RawTag, RawFrame, Item, raw_tag, spell_frame, IsTagOf, IsItemOf, u1, is_kind, form_of, delta, many, tag, frame_with}
 
 -- no items
 pub none_as : {K A B : Type 0} (item : Layout K A) (Means : A → B → Type 0) (bytes : List ℕ) → SpellsSome (times 0 item) (AllZip Means) bytes [] bytes
 none_as item Means bytes = record { value = []; spells = record { fits = (refl, All-nil item.Fits); text = refl }; means = tt }
+
+many_alike : (pool : List Entry) (instructions : Instructions) (n : Count) (xs : List RawTag) → (many n (tag pool instructions)).spell xs ≡ (many n raw_tag).spell xs
+many_alike pool instructions (count.Given n) xs = refl
+many_alike pool instructions count.Counted xs = refl
+
+-- a frame is spelled alike, whatever is asked of its tags
+pub spelled_alike : (pool : List Entry) (instructions : Instructions) (x : RawFrame) → (frame_with (tag pool instructions)).spell x ≡ spell_frame x
+spelled_alike pool instructions x = rw (many_alike pool instructions (form_of x.kind).locals x.locals, many_alike pool instructions (form_of x.kind).stack x.stack) refl
 
 -- the locals aren't there
 pub locals_stop : (pool : List Entry) (instructions : Instructions) (of_kind by end : ℕ) (form : Form) (bytes r s : List ℕ) (why : Stop BadKind) → form ≡ form_of of_kind → Spells (tested u1 is_kind kind.Frame) bytes of_kind r → Spells (delta form.delta) r by s

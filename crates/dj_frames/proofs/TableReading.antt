@@ -19,10 +19,11 @@ use Rattle.dj_instructions.specs.Instructions.{Instructions, instruction_at}
 use Rattle.dj_frames.specs.declared.tag.Tag as declared
 use Rattle.dj_frames.specs.declared.form.Change.{Change}
 use Rattle.dj_frames.specs.declared.form.Change.TheVariants as change
+use Rattle.dj_frames.specs.declared.frame.Frame as code_frame
 use Rattle.dj_frames.specs.declared.written.Written.{Written}
 use Rattle.dj_frames.specs.declared.follow.Listed.{Listed}
 use Rattle.dj_frames.specs.Frames.{Tag, Frame, view_tag, view_tags, view_frames, frame_of}
-use Rattle.dj_frames.specs.StackMap.{RawTag, RawFrame, Item, IsTagOf, IsItemOf, form_of, u2, tag, frame_with, changed, chopped, count_changed, count_behind, least_behind, last_offset, frames_from, Follows, told_at, frame_behind, spell_frame, table, BreaksAt}
+use Rattle.dj_frames.specs.StackMap.{RawTag, RawFrame, Item, IsTagOf, IsItemOf, form_of, u2, tag, frame_with, changed, chopped, count_changed, count_behind, least_behind, last_offset, frames_from, Follows, told_at, frame_behind, spell_frame, table, BreaksAt, ReadsFrames, broken, second}
 use Rattle.dj_frames.specs.Reading.{view_written, CanFollow, IsBehind, locals_behind, IsListedTo, ReadsTable}
 use Rattle.dj_frames.proofs.Turns.{same_length}
 
@@ -172,3 +173,31 @@ fault_kind pool instructions entry end bytes fault (inr (n, rest, count, (items,
 pub table_stops : (pool : List Entry) (instructions : Instructions) (values : List Tag) (bytes : List ℕ) (why : Stop BadKind) → Stops (table pool instructions (length values)).Halts (length bytes) bytes why → ReadsTable pool instructions values bytes (Err why)
 table_stops pool instructions values bytes stop.Memory halts = tt
 table_stops pool instructions values bytes (stop.Fault fault) halts = let is = fault_kind pool instructions (length values) (length bytes) bytes fault halts in (ap (λ (f : Fault BadKind). f.kind) is, inl (subst (λ (f : Fault BadKind). (table pool instructions (length values)).Halts (length bytes) bytes f) is halts))
+
+-- ---- the tables of a method
+
+-- no frame is listed yet
+pub none_listed : (pool : List Entry) (instructions : Instructions) (entry : List declared.Tag) (frames : List (ℕ × code_frame.Frame)) → frames ≡ [] → IsListedTo pool instructions (view_tags entry) [] (record { frames = frames; locals = entry; least = 0 })
+none_listed pool instructions entry frames none = record { items = []; meant = tt; frames = ap view_frames none; locals = refl; least = refl; low = omega arith }
+
+-- the frames of the one table
+pub one_listed : (pool : List Entry) (instructions : Instructions) (values : List Tag) (content : List ℕ) (contents others : List (List ℕ)) (listed : Listed) → contents ≡ content ∷ others → others ≡ []
+    → ReadsTable pool instructions values content (Ok listed) → ReadsFrames pool instructions values contents (Ok listed.frames)
+one_listed pool instructions values content contents others listed is none (raws, whole, h) =
+    rw (is, none) (record { raws = raws; laid_out = whole; items = h.items; meant = h.meant; frames_are = h.frames })
+
+some_more : (others : List (List ℕ)) → (others ≡ [] → ⊥) → (other : List ℕ) × (rest : List (List ℕ)) × (others ≡ other ∷ rest)
+some_more [] some = absurd (some refl)
+some_more (other ∷ rest) some = (other, rest, refl)
+
+-- there is a second table
+pub two_tables : (pool : List Entry) (instructions : Instructions) (values : List Tag) (content : List ℕ) (contents others : List (List ℕ)) (listed : Listed) (why : Stop BadKind) → contents ≡ content ∷ others → (others ≡ [] → ⊥)
+    → ReadsTable pool instructions values content (Ok listed) → why ≡ stop.Fault (record { kind = kind.Frame; offset = listed.least - 1 }) → ReadsFrames pool instructions values contents (Err why)
+two_tables pool instructions values content contents others listed why is some (raws, whole, h) at =
+    let more = some_more others some in rw (at, is, more.2) (refl, second raws whole (ap (λ (n : ℕ). n - 1) h.least))
+
+-- the first table breaks
+pub first_breaks : (pool : List Entry) (instructions : Instructions) (values : List Tag) (content : List ℕ) (contents others : List (List ℕ)) (why : Stop BadKind) → contents ≡ content ∷ others
+    → ReadsTable pool instructions values content (Err why) → ReadsFrames pool instructions values contents (Err why)
+first_breaks pool instructions values content contents others stop.Memory is reads = tt
+first_breaks pool instructions values content contents others (stop.Fault fault) is reads = rw is (reads.0, broken reads.1)

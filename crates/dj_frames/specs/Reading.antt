@@ -9,8 +9,6 @@ use Rattle.dj_instructions.specs.declared.kinds.BadKind.{BadKind}
 use Rattle.dj_instructions.specs.declared.kinds.BadKind.TheVariants as kind
 use Rattle.dj_instructions.specs.declared.instruction.Instruction as declared
 use Rattle.dj_instructions.specs.Instructions.{Instruction, Instructions, New, view_instruction, view_instructions, instruction_at}
-use Rattle.dj_names.specs.Types.{JType, Boolean, Byte, Char, Short, Int, Long, Float, Double, Class, Array, Field}
-use Rattle.dj_names.specs.Descriptors.{SpellsDescriptor}
 use Rattle.dj_frames.specs.declared.written.Written.{Written}
 use Rattle.dj_frames.specs.declared.follow.Listed.{Listed}
 use Rattle.dj_frames.specs.Frames.{Tag, view_tags, view_frames, frame_of}
@@ -19,23 +17,6 @@ use Rattle.dj_frames.specs.StackMap.{RawFrame, Item, IsItemOf, form_of, changed,
 -- a frame as the code reads it, seen as plain data
 abbrev pub view_written : Written → Item
 view_written written = record { kind = written.kind; delta = written.delta; locals = view_tags written.locals; stack = view_tags written.stack }
-
--- the type is an array's
-abbrev pub IsArray : JType → Type 0
-IsArray Boolean = ⊥
-IsArray Byte = ⊥
-IsArray Char = ⊥
-IsArray Short = ⊥
-IsArray Int = ⊥
-IsArray Long = ⊥
-IsArray Float = ⊥
-IsArray Double = ⊥
-IsArray (Class name) = ⊥
-IsArray (Array element) = ⊤
-
--- the units are the descriptor of this array type
-abbrev pub IsArrayNamed : List ℕ → JType → Type 0
-IsArrayNamed units type = IsArray type × SpellsDescriptor units (Field type)
 
 -- the instruction is a `new`
 pub record IsNew (instruction : Instruction) : Type 0 where

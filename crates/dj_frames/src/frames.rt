@@ -47,6 +47,28 @@ fn first_table<'a>(
     None
 }
 
+/// The frames of a method of a class, or their fault.
+fn frames_of(
+    alloc: Global,
+    class: &ClassFile,
+    method: &Method,
+    instructions: &[(u32, Instruction)],
+    attributes: &[Attribute],
+) -> Result<Items<(u32, Frame)>, Stop<BadKind>>
+    requires rising { IsRising (view_instructions instructions.now) }
+    ensures reads { ReadsFrames class.now.pool (view_instructions instructions.now) (entry_values class.now.this_class (view_method method.now)) (contents class.now.pool (codes "StackMapTable") attributes.now) result }
+{
+    let Some((content, others)) = first_table(&class.pool, attributes) else {
+        return Ok(Items::new(alloc));
+    };
+    let entry = entry_locals(alloc, &class.this_class, method)?;
+    let listed = read_table(alloc, &class.pool, instructions, entry, content)?;
+    if has_attribute(&class.pool, others, NAME) {
+        return Err(fault_behind(listed.least));
+    }
+    Ok(listed.frames)
+}
+
 /// The frames of a method of a class, by the attributes of its Code; a fault is at the pc of the
 /// last frame before it that is right, 0 where there is none.
 pub fn read_frames(
@@ -63,13 +85,5 @@ pub fn read_frames(
     // A fault that the tables have is answered, unless memory runs out.
     ensures fault { (pc : ℕ) → BreaksFrames class.now.pool (view_instructions instructions.now) (entry_values class.now.this_class (view_method method.now)) (contents class.now.pool (codes "StackMapTable") attributes.now) pc → Gives view_frames result (Err (record { kind = kind.Frame; offset = pc })) }
 {
-    let Some((content, others)) = first_table(&class.pool, attributes) else {
-        return Ok(Items::new(alloc));
-    };
-    let entry = entry_locals(alloc, &class.this_class, method)?;
-    let listed = read_table(alloc, &class.pool, instructions, entry, content)?;
-    if has_attribute(&class.pool, others, NAME) {
-        return Err(fault_behind(listed.least));
-    }
-    Ok(listed.frames)
+    frames_of(alloc, class, method, instructions, attributes)
 }

@@ -11,10 +11,10 @@ ghost use Rattle.dj_frames.specs.Frames.{view_tag, view_tags};
 ghost use Rattle.dj_frames.specs.StackMap.{u1, u2, raw_tag, plain_tag, IsTagOf, tag, many};
 
 use crate::form::Count;
-use crate::places::{class_type_at, is_new_at};
+use crate::places::is_new_at;
 use crate::tag::Tag;
 use dj_class::Pool;
-use dj_instructions::{BadKind, Instruction};
+use dj_instructions::{BadKind, Instruction, type_of_class};
 use dj_layout::{Stop, fault_at, u8_at, u16_at};
 use dj_names::Items;
 use std::alloc::{AllocError, Global};
@@ -78,7 +78,7 @@ fn tag_of(
     ensures found { IfOk result (λ found. Finds (IsTagOf pool.now (view_instructions instructions.now) (record { tag = tag; number = number })) (option_map view_tag found)) }
 {
     match tag {
-        7 => match class_type_at(alloc, pool, number)? {
+        7 => match type_of_class(alloc, pool, number)? {
             Some(class) => Ok(Some(Tag::Object(class))),
             None => Ok(None),
         },

@@ -17,4 +17,5 @@ mod types;
 
 pub use instruction::Instruction;
 pub use kinds::{BadKind, Calc, Element, Kind, Test};
+pub use pool_names::type_of_class;
 pub use references::{FieldRef, MethodRef};
