@@ -45,3 +45,11 @@ pub fn start_at(instructions: &[(u32, Instruction)], at: u64) -> Option<u32>
         None => None,
     }
 }
+
+/// Whether an instruction begins at a pc.
+pub fn is_start(instructions: &[(u32, Instruction)], pc: u32) -> bool
+    requires rising { IsRising (view_instructions instructions.now) }
+    ensures exact { IsTrue result ↔ IsSome (instruction_at (view_instructions instructions.now) pc) }
+{
+    start_at(instructions, u64::from(pc)).is_some()
+}
