@@ -1,12 +1,21 @@
-//! The code of methods: the content of a Code attribute, and its instructions as values.
-//! It stands on `dj_class` for attributes, on `dj_layout` for the format, and on `dj_names` for names and types.
-//! The layer above uses `read_content`, which answers the content exactly where the bytes are one, and `read_instructions`, whose clause `ok` gives the instructions at the front of the code.
+//! The code of methods, whole: its instructions, its exception table and its frames, or the first fault (JVMS 4.7.3, 4.9.1).
+//! It stands on `dj_instructions` and `dj_frames`, whose types it gives on, on `dj_class` for attributes, on `dj_layout` for the format, and on `dj_names` for names and types.
+//! The layers above use `read_code`, which answers the code exactly where the content of a Code attribute is one and else its first fault, and `copy` of each type.
 #![tactic(auto)]
 
 mod code;
 mod content;
+mod fault;
+mod method_code;
 mod opcodes;
+mod ranges;
+pub mod straight;
+mod targets;
 
-pub use code::{Calc, Code, Constant, Handler, Instruction, Kind};
 pub use content::{CodeContent, RawHandler, read_content};
-pub use opcodes::{Decoded, read_instructions};
+pub use dj_frames::{Frame, Slots, Tag, entry_frame};
+pub use dj_instructions::{
+    BadKind, Calc, Element, FieldRef, Instruction, Kind, MethodRef, Test, type_of_class,
+};
+pub use fault::CodeFault;
+pub use method_code::{Code, Handler, Typed};

@@ -1,0 +1,5 @@
+pub mod Examples
+pub mod RawIsExact
+pub mod ListingIsOne
+pub mod PoolLookups
+pub mod Meant

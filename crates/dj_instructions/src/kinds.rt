@@ -1,7 +1,7 @@
 //! What instructions work on and what they do, as enums without contents (JVMS 2.11).
 
 /// What may be wrong with the code of a method.
-#[derive(Clone, Copy, PartialEq, Eq)]
+#[derive(Clone, Copy, Debug, PartialEq, Eq)]
 pub enum BadKind {
     Opcode,
     CutOff,

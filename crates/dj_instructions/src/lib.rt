@@ -3,10 +3,19 @@
 //! The layers above use `read_instructions`, which answers the instructions exactly where the bytes are some and else their first fault, `instruction_at`, and `copy` of each type.
 #![tactic(auto)]
 
+mod alone;
+mod constants;
+mod form;
 mod instruction;
+mod jumps;
 mod kinds;
+mod members;
+mod objects;
+mod pool_names;
 mod references;
+mod types;
 
 pub use instruction::Instruction;
 pub use kinds::{BadKind, Calc, Element, Kind, Test};
+pub use pool_names::type_of_class;
 pub use references::{FieldRef, MethodRef};

@@ -8,7 +8,7 @@ ghost use Rattle.dj_code.specs.declared.code.Instruction.TheVariants.{Return};
 ghost use Rattle.dj_code.specs.Opcodes.{IsReadableFront};
 ghost use Rattle.dj_straight.specs.Straight.{Formula, operator, Number, Parameter, IsRebuilt, IfTree};
 
-use dj_code::{Calc, Constant, Decoded, Instruction, Kind, read_instructions};
+use dj_code::straight::{Calc, Constant, Decoded, Instruction, Kind, read_instructions};
 use dj_names::{Boxed, Items};
 use dj_syntax::{Exp, Op, Var, VarKind};
 use std::alloc::{AllocError, Global};

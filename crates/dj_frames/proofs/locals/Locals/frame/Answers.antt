@@ -1,0 +1,9 @@
+use Rattle.std.proofs.Common.{ap, ◌∙◌, sym, refl}
+use Rattle.dj_frames.specs.Frames.{view_tags}
+use Rattle.dj_frames.proofs.Spreading.{frame_is}
+use Rattle.dj_frames.proofs.locals.Locals.frame.Goals as goal
+
+pub returns : goal.returns
+returns c =
+    let i = c.self.inside in
+    record { frame = rw (← c.self.view_is) (frame_is i.values i.slots c.args.stack.now i.unborn c.self.invariant.spread c.self.invariant.first _ (rw (c.in_ok-locals.ensures.equal, c.in_ok-stack.ensures.same, c.is_some.ensures) refl)) }
