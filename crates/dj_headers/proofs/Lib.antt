@@ -1,0 +1,4 @@
+pub mod RowLemmas
+pub mod PlaceLemmas
+pub mod PathLemmas
+pub mod TableLemmas
