@@ -2,3 +2,4 @@ pub mod RowLemmas
 pub mod PlaceLemmas
 pub mod PathLemmas
 pub mod TableLemmas
+pub mod HeaderLemmas

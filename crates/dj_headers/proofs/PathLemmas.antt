@@ -34,6 +34,14 @@ join_paths : (headers : List Header) (x y z : Name) (path : List Name) → IsPat
 join_paths headers x y z [] same rest = subst (λ n. Implements headers n z) (sym same) rest
 join_paths headers x y z (n ∷ path) steps rest = Implements-step headers x n z steps.0 (join_paths headers n y z path steps.1 rest)
 
+path-none : (x y : Name) (path : List Name) → IsPath (HasParent []) x path y → x ≡ y
+path-none x y [] same = same
+path-none x y (n ∷ path) steps = absurd (elim steps.0 [ inl up ↦ (let w = up.2 in omega arith) | inr up ↦ (let w = up.2 in omega arith) ])
+
+-- without headers nothing stands above another
+pub Implements-none : (x y : Name) → Implements [] x y → x ≡ y
+Implements-none x y h = path-none x y h.path h.is_path
+
 -- ---- one more header: the steps from its name to its parents
 
 HasParent-before : (headers : List Header) (header : Header) (x y : Name) → HasParent headers x y → HasParent (headers ++ header ∷ []) x y

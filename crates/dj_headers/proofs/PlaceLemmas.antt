@@ -2,7 +2,8 @@
 use Rattle.std.proofs.Common.{◌≡◌, ◌≢◌, ◌⊎◌, ℕ, ◌+◌, ◌<◌, List, [], ◌∷◌, ◌++◌, Contains, take, length, get_or, bytes_eq, Bool, false, is_some, if◌then◌else◌, Option, Some, None, refl, sym, ap, subst, inl, inr, ◌∙◌, arith}
 use Rattle.std.specs.Ordering.{nat_cmp}
 use Rattle.std.specs.Cmp.Lexicographic.{slice_cmp}
-use Rattle.std.specs.BTreeMap.{btree_map_len, is_at, Updates}
+use Rattle.std.specs.BTreeMap.{btree_map_len, is_at, IsEmpty, Updates}
+use Rattle.std.specs.Map.{lookup}
 use Rattle.std.proofs.lemmas.Bool.{false_from_ne_true, cases_Bool, both_ways}
 use Rattle.std.proofs.lemmas.Slice.Eq.{bytes_eq-Decides}
 use Rattle.std.proofs.lemmas.List.{take_more}
@@ -94,3 +95,13 @@ learned old new name key at was same next none had updates size =
 -- names that compare as different
 pub apart_names : (x y : Name) (b : Bool) → b ≡ bytes_eq x y → b ≡ false → x ≢ y
 apart_names x y b is isnt same = both_ways b isnt (is ∙ (bytes_eq-Decides x y).1 same)
+
+-- a map without entries has no place
+pub place_of-empty : (places : Places) (name : Name) → IsEmpty places → place_of places name ≡ None
+place_of-empty places name empty = ap (lookup (is_at (slice_cmp nat_cmp name))) empty
+
+pub IsIndex-empty : (places : Places) → IsEmpty places → IsIndex places
+IsIndex-empty places empty = record {
+  one_name = λ first second at one two. absurd (none-some at (sym (place_of-empty places first empty) ∙ one));
+  below = λ name at is. absurd (none-some at (sym (place_of-empty places name empty) ∙ is));
+}

@@ -1,12 +1,13 @@
 -- Tables, as places and headers come.
 use Rattle.std.proofs.Common.{◌≡◌, ◌≢◌, ◌↔◌, ◌⊎◌, ℕ, ◌<◌, List, [], ◌∷◌, ◌++◌, map, Option, Some, None, Contains, length, refl, sym, ap, subst, inl, inr, ◌∙◌, arith}
 use Rattle.std.proofs.lemmas.Option.{same_Some}
+use Rattle.std.proofs.lemmas.List.{map-append}
 use Rattle.dj_names.specs.declared.header.Header.{Header}
 use Rattle.dj_names.specs.Headers.{Name, Implements}
 use Rattle.dj_headers.specs.Rows.{IsSet, row_at, Opens}
-use Rattle.dj_headers.specs.Table.{Places, place_of, HasPlace, IsIndex, Extends, IsReached, IsMarked, IsTable, IsParent, IsAbove, IsPlaced, IsIn, IsUp}
-use Rattle.dj_headers.proofs.RowLemmas.{none_empty}
-use Rattle.dj_headers.proofs.PathLemmas.{Implements-own, Implements-before, Implements-through, Implements-cases}
+use Rattle.dj_headers.specs.Table.{Places, place_of, HasPlace, IsIndex, Extends, IsReached, IsMarked, IsTable, IsParent, IsAbove, IsPlaced, IsIn, IsUp, AreTables, IsReady, bare}
+use Rattle.dj_headers.proofs.RowLemmas.{none_empty, none_behind}
+use Rattle.dj_headers.proofs.PathLemmas.{Implements-own, Implements-none, Implements-before, Implements-through, Implements-cases}
 
 -- a table stays one as names gain places
 pub IsTable-extends : (headers : List Header) (old new : Places) (rows : List (List ℕ)) → Extends old new → IsTable headers old rows → IsTable headers new rows
@@ -131,4 +132,40 @@ IsTable-raised headers header places at old new row index table here own up bits
                   is_set = (bits m.from i.at).1 (inr (subst (λ j. IsSet (row_at old m.from) j) one m.is_set, i.is_set)) })
         ]
   ];
+}
+
+-- ---- both tables
+
+pub IsTable-none : (places : Places) (rows : List (List ℕ)) → rows ≡ [] → IsTable [] places rows
+IsTable-none places rows none = record {
+  sound = λ from to is_set. absurd (none_behind [] from to (omega arith) (subst (λ (all : List (List ℕ)). IsSet (row_at all from) to) none is_set));
+  whole = λ lower upper above. inl (Implements-none lower upper above);
+}
+
+pub AreTables-extends : (headers : List Header) (old new : Places) (above lines : List (List ℕ)) → Extends old new → (IsIndex old → IsIndex new) → AreTables headers old above lines → AreTables headers new above lines
+AreTables-extends headers old new above lines extends index tables = record {
+  index = index tables.index;
+  above = IsTable-extends headers old new above extends tables.above;
+  lines = IsTable-extends (map bare headers) old new lines extends tables.lines;
+}
+
+pub AreTables-open_above : (headers : List Header) (places : Places) (name : Name) (at : ℕ) (old new lines : List (List ℕ)) → place_of places name ≡ Some at → Opens at old new → AreTables headers places old lines → AreTables headers places new lines
+AreTables-open_above headers places name at old new lines here opens tables =
+    record { index = tables.index; above = IsTable-opens headers places name at old new here opens tables.above; lines = tables.lines }
+
+pub AreTables-open_lines : (headers : List Header) (places : Places) (name : Name) (at : ℕ) (above old new : List (List ℕ)) → place_of places name ≡ Some at → Opens at old new → AreTables headers places above old → AreTables headers places above new
+AreTables-open_lines headers places name at above old new here opens tables =
+    record { index = tables.index; above = tables.above; lines = IsTable-opens (map bare headers) places name at old new here opens tables.lines }
+
+-- a row's bits after a row was raised by what is above a place
+abbrev pub IsRaised : ℕ → List ℕ → List (List ℕ) → List (List ℕ) → Type 0
+IsRaised at row old new = (i j : ℕ) → IsSet (row_at new i) j ↔ (IsSet (row_at old i) j ⊎ (IsSet (row_at old i) at × IsSet row j))
+
+pub AreTables-raised : (headers : List Header) (header : Header) (places : Places) (at : ℕ) (above above' lines lines' : List (List ℕ)) (all line : List ℕ) → IsReady headers header places at above lines all line
+    → IsSet (row_at above at) at → IsSet (row_at lines at) at → IsRaised at all above above' → IsRaised at line lines lines' → AreTables (headers ++ header ∷ []) places above' lines'
+AreTables-raised headers header places at above above' lines lines' all line ready own_above own_line raised raised_lines = record {
+  index = ready.tables.index;
+  above = IsTable-raised headers header places at above above' all ready.tables.index ready.tables.above ready.named own_above ready.all raised;
+  lines = subst (λ (hs : List Header). IsTable hs places lines') (sym (map-append bare headers (header ∷ [])))
+      (IsTable-raised (map bare headers) (bare header) places at lines lines' line ready.tables.index ready.tables.lines ready.named own_line ready.line raised_lines);
 }

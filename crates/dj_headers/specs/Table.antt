@@ -5,7 +5,7 @@ use Rattle.std.specs.Cmp.Lexicographic.{slice_cmp}
 use Rattle.std.specs.BTreeMap as tree
 use Rattle.std.specs.BTreeMap.{BTreeMap, btree_map_len}
 use Rattle.dj_names.specs.declared.header.Header.{Header}
-use Rattle.dj_names.specs.Headers.{Name, names, HasDistinctNames, Implements}
+use Rattle.dj_names.specs.Headers.{Name, HasDistinctNames, Implements}
 use Rattle.dj_headers.specs.Rows.{IsSet, row_at}
 
 -- ---- places
@@ -33,8 +33,8 @@ abbrev pub Extends : Places → Places → Type 0
 Extends old new = (name : Name) (at : ℕ) → place_of old name ≡ Some at → place_of new name ≡ Some at
 
 -- each header's name has the place of the header in the list
-abbrev pub HasPlaces : List Header → Places → Type 0
-HasPlaces headers places = (name : Name) (at : ℕ) → slice_get (names headers) at ≡ Some name → place_of places name ≡ Some at
+pub record HasPlaces (headers : List Header) (places : Places) : Type 0 where
+  pub each : (at : ℕ) (header : Header) → slice_get headers at ≡ Some header → place_of places header.name ≡ Some at
 
 -- ---- the table
 
@@ -103,3 +103,10 @@ pub record IsIn (places : Places) (row : List ℕ) (upper : Name) : Type 0 where
 pub record IsUp (headers : List Header) (P : Name → Type 0) (places : Places) (row : List ℕ) : Type 0 where
   pub sound : (at : ℕ) → IsSet row at → IsPlaced headers P places at
   pub whole : (upper : Name) → IsAbove headers P upper → IsIn places row upper
+
+-- all is ready for a header: its name has this place, whose own bits are set, and these rows have what is above it
+pub record IsReady (headers : List Header) (header : Header) (places : Places) (at : ℕ) (by_parents by_superclasses : List (List ℕ)) (above lines : List ℕ) : Type 0 where
+  pub tables : AreTables headers places by_parents by_superclasses
+  pub named : place_of places header.name ≡ Some at
+  pub all : IsUp headers (IsParent header.superclass header.interfaces) places above
+  pub line : IsUp (map bare headers) (IsParent header.superclass []) places lines

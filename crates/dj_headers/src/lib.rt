@@ -3,6 +3,10 @@
 //! The layers above use `Headers` (`is_subclass`, `implements`, `is_interface`, `place`), `is_subtype` and `is_assignable`, each exact and without memory.
 #![tactic(auto)]
 
+mod headers;
 mod places;
 mod rows;
 mod table;
+mod tables;
+
+pub use headers::Headers;

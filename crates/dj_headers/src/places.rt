@@ -3,7 +3,7 @@
 ghost use Rattle.std.specs.Prelude.{◌≡◌, ℕ, List, Some, Contains, IfOk, OnOk};
 ghost use Rattle.dj_headers.specs.Table.{place_of, HasPlace, IsIndex, Extends, IsParent};
 
-use dj_names::ClassName;
+use dj_names::{ClassName, Header};
 use std::alloc::{AllocError, Global};
 use std::collections::BTreeMap;
 
@@ -57,7 +57,7 @@ pub fn learn_all(alloc: Global, places: &mut Places, names: &[ClassName]) -> Res
 }
 
 /// Gives a superclass, if there is one, and interfaces a place each.
-pub fn learn_parents(
+fn learn_parents(
     alloc: Global,
     places: &mut Places,
     superclass: &Option<ClassName>,
@@ -75,4 +75,20 @@ pub fn learn_parents(
         }
         None => Ok(()),
     }
+}
+
+/// Gives the class of a header and each of its parents a place, and answers that of the class.
+pub fn learn_header(
+    alloc: Global,
+    places: &mut Places,
+    header: &Header,
+) -> Result<usize, AllocError>
+    ensures place { IfOk result (λ at. place_of places.new header.now.name ≡ Some at) }
+    ensures known { OnOk result ((name : List ℕ) → IsParent header.now.superclass header.now.interfaces name → HasPlace places.new name) }
+    ensures extends { Extends places.old places.new }
+    ensures index { IsIndex places.old → IsIndex places.new }
+{
+    learn_parents(alloc, places, &header.superclass, header.interfaces.as_slice())?;
+    let class = learn(alloc, places, &header.name)?;
+    Ok(class)
 }

@@ -70,11 +70,10 @@ pub fn above_parents(
 
 /// Adds empty rows until there is one at this place.
 fn add_rows(alloc: Global, rows: &mut Vec<Items<u64>>, at: usize) -> Result<(), AllocError>
-    requires fits { at < usize.MAX }
     ensures there { OnOk result (at < length rows.new.items) }
     ensures kept { (i : ℕ) → row_at rows.new.items i ≡ row_at rows.old.items i }
 {
-    for _ in rows.len()..at + 1 {
+    while rows.len() <= at {
         rows.push(Items::new(alloc))?;
     }
     Ok(())
@@ -105,7 +104,6 @@ fn open_rows(rows: &mut [Items<u64>], class: usize, words: usize) -> Result<(), 
 
 /// Takes all the memory that a header's row and what is above it need.
 pub fn open(alloc: Global, rows: &mut Vec<Items<u64>>, class: usize, words: usize) -> Result<(), AllocError>
-    requires fits { class < usize.MAX }
     ensures opened { OnOk result (IsOpened class words rows.new.items) }
     ensures opens { Opens class rows.old.items rows.new.items }
 {
