@@ -3,3 +3,4 @@ pub mod PlaceLemmas
 pub mod PathLemmas
 pub mod TableLemmas
 pub mod HeaderLemmas
+pub mod TypeViews

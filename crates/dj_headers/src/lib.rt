@@ -3,10 +3,12 @@
 //! The layers above use `Headers` (`is_subclass`, `implements`, `is_interface`, `place`), `is_subtype` and `is_assignable`, each exact and without memory.
 #![tactic(auto)]
 
+mod assignable;
 mod headers;
 mod places;
 mod rows;
 mod table;
 mod tables;
 
+pub use assignable::{is_above_arrays, is_assignable, is_class_assignable, is_reference, is_subtype};
 pub use headers::Headers;
