@@ -1,5 +1,5 @@
 -- Headers by their places in the list.
-use Rattle.std.proofs.Common.{◌≡◌, ◌≢◌, ◌⊎◌, ℕ, zero, suc, ◌+◌, ◌<◌, List, [], ◌∷◌, ◌++◌, length, map, get_or, take, slice_get, bytes_eq, Bool, true, false, Option, Some, None, Contains, refl, sym, ap, subst, inl, inr, ◌∙◌, arith}
+use Rattle.std.proofs.Common.{◌≡◌, ◌≢◌, ◌⊎◌, ℕ, zero, suc, ◌+◌, ◌<◌, List, [], ◌∷◌, ◌++◌, length, map, get_or, take, slice_get, bytes_eq, Bool, true, false, Option, Some, None, IsSomeAnd, Contains, refl, sym, ap, subst, inl, inr, ◌∙◌, arith}
 use Rattle.std.specs.Prelude.{option_map}
 use Rattle.std.specs.Ordering.{nat_cmp}
 use Rattle.std.specs.Cmp.Lexicographic.{slice_cmp}
@@ -10,6 +10,8 @@ use Rattle.std.proofs.lemmas.Option.{slice_get-map, slice_get_within, slice_get_
 use Rattle.std.proofs.lemmas.Slice.Eq.{bytes_eq-Decides}
 use Rattle.dj_names.specs.declared.header.Header.{Header}
 use Rattle.dj_names.specs.Headers.{Name, names, HasDistinctNames}
+use Rattle.dj_headers.specs.declared.roots.Roots.{Roots}
+use Rattle.dj_headers.specs.Roots.{AreRoots, KnowsRoots}
 use Rattle.dj_headers.specs.Table.{Places, place_of, HasPlaces, AreTables, KeepsTables}
 use Rattle.dj_headers.proofs.PlaceLemmas.{Gives, gives}
 
@@ -84,19 +86,24 @@ none_before headers i header distinct within is there =
 
 -- ---- a push
 
+knows_some : (headers : List Header) (roots : Option Roots) → IsSomeAnd roots AreRoots → KnowsRoots headers roots
+knows_some headers None none = absurd none
+knows_some headers (Some roots) known = known
+
 module _ (headers : List Header) (header : Header) (old new : Places) (name : Name) (at : ℕ) (fresh : ¬ Contains (names headers) header.name) (same : name ≡ header.name)
     (updates : Updates (slice_cmp nat_cmp) old new name (Some at)) where
   given : Gives old new header.name at
   given = subst (λ (n : Name). Gives old new n at) same (gives old new name at updates)
 
-  pub KeepsTables-stays : (places : Places) (above lines : List (List ℕ)) → HasDistinctNames headers → HasPlaces headers old → AreTables headers places above lines → KeepsTables headers new places above lines
-  KeepsTables-stays places above lines distinct in_list tables =
-      record { distinct = distinct; in_list = HasPlaces-gives headers old new header.name at fresh given in_list; tables = tables }
+  pub KeepsTables-stays : (places : Places) (above lines : List (List ℕ)) (roots : Option Roots) → HasDistinctNames headers → HasPlaces headers old → AreTables headers places above lines → KnowsRoots headers roots → KeepsTables headers new places above lines roots
+  KeepsTables-stays places above lines roots distinct in_list tables known =
+      record { distinct = distinct; in_list = HasPlaces-gives headers old new header.name at fresh given in_list; tables = tables; known = known }
 
-  pub KeepsTables-push : (places : Places) (above lines : List (List ℕ)) → at ≡ length headers → HasDistinctNames headers → HasPlaces headers old → AreTables (headers ++ header ∷ []) places above lines
-      → KeepsTables (headers ++ header ∷ []) new places above lines
-  KeepsTables-push places above lines last distinct in_list tables = record {
+  pub KeepsTables-push : (places : Places) (above lines : List (List ℕ)) (roots roots' : Option Roots) → at ≡ length headers → HasDistinctNames headers → HasPlaces headers old → AreTables (headers ++ header ∷ []) places above lines
+      → IsSomeAnd roots AreRoots → roots' ≡ roots → KeepsTables (headers ++ header ∷ []) new places above lines roots'
+  KeepsTables-push places above lines roots roots' last distinct in_list tables known same = record {
     distinct = HasDistinctNames-push headers header distinct fresh;
     in_list = HasPlaces-push headers header old new fresh (subst (Gives old new header.name) last given) in_list;
     tables = tables;
+    known = rw same (knows_some (headers ++ header ∷ []) roots known);
   }

@@ -1,5 +1,5 @@
 -- Paths, and what one more header changes.
-use Rattle.std.proofs.Common.{◌≡◌, ◌⊎◌, ◌↔◌, List, [], ◌∷◌, ◌++◌, Some, Contains, ℕ, zero, suc, ◌<◌, length, map, get_or, Any, refl, sym, ap, subst, inl, inr, ◌∙◌, arith}
+use Rattle.std.proofs.Common.{◌≡◌, ◌⊎◌, ◌↔◌, List, [], ◌∷◌, ◌++◌, Some, Contains, Bool, IsTrue, ℕ, zero, suc, ◌<◌, length, map, get_or, Any, refl, sym, ap, subst, inl, inr, ◌∙◌, arith}
 use Rattle.std.proofs.lemmas.List.Quantifiers.{Any-push}
 use Rattle.std.proofs.lemmas.List.{get_or_append_left, length_push, get_or_push, map-append}
 use Rattle.dj_names.specs.declared.header.Header.{Header}
@@ -41,6 +41,12 @@ path-none x y (n ∷ path) steps = absurd (elim steps.0 [ inl up ↦ (let w = up
 -- without headers nothing stands above another
 pub Implements-none : (x y : Name) → Implements [] x y → x ≡ y
 Implements-none x y h = path-none x y h.path h.is_path
+
+pub word_alone : (headers : List Header) (word units class : Name) (r : Bool) → headers ≡ [] → units ≡ class → IsTrue r ↔ (word ≡ units) → IsTrue r ↔ Implements headers class word
+word_alone headers word units class r none same is = (
+  λ yes. subst (λ name. Implements headers name word) (is.0 yes ∙ same) (Implements-own headers word),
+  λ above. is.1 (sym (Implements-none class word (subst (λ all. Implements all class word) none above)) ∙ sym same),
+)
 
 -- ---- one more header: the steps from its name to its parents
 

@@ -114,8 +114,13 @@ IsTable-raised headers header places at old new row index table here own up bits
         let r = table.sound from at through.0 in
         let p = up.sound to through.1 in
         let named : r.upper ≡ header.name = index.one_name r.upper header.name at r.upper_at here in
-        record { lower = r.lower; upper = p.upper; lower_at = r.lower_at; upper_at = p.upper_at;
-            reached = Implements-through headers header r.lower p.upper (subst (λ x. Implements headers r.lower x) named r.reached) p.reached }
+        record {
+          lower = r.lower;
+          upper = p.upper;
+          lower_at = r.lower_at;
+          upper_at = p.upper_at;
+          reached = Implements-through headers header r.lower p.upper (subst (λ x. Implements headers r.lower x) named r.reached) p.reached;
+        }
   ];
   whole = λ lower upper above. elim (Implements-cases headers header lower upper above) [
     | inl before ↦ elim (table.whole lower upper before) [
@@ -128,8 +133,13 @@ IsTable-raised headers header places at old new row index table here own up bits
           | inl same ↦ inr (record { from = at; to = i.at; lower_at = ap (place_of places) same ∙ here; upper_at = i.upper_at; is_set = (bits at i.at).1 (inr (own, i.is_set)) })
           | inr m ↦
               let one : m.to ≡ at = same_Some m.to at (sym m.upper_at ∙ here) in
-              inr (record { from = m.from; to = i.at; lower_at = m.lower_at; upper_at = i.upper_at;
-                  is_set = (bits m.from i.at).1 (inr (subst (λ j. IsSet (row_at old m.from) j) one m.is_set, i.is_set)) })
+              inr (record {
+                from = m.from;
+                to = i.at;
+                lower_at = m.lower_at;
+                upper_at = i.upper_at;
+                is_set = (bits m.from i.at).1 (inr (subst (λ j. IsSet (row_at old m.from) j) one m.is_set, i.is_set));
+              })
         ]
   ];
 }

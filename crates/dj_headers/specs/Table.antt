@@ -6,6 +6,8 @@ use Rattle.std.specs.BTreeMap as tree
 use Rattle.std.specs.BTreeMap.{BTreeMap, btree_map_len}
 use Rattle.dj_names.specs.declared.header.Header.{Header}
 use Rattle.dj_names.specs.Headers.{Name, HasDistinctNames, Implements}
+use Rattle.dj_headers.specs.declared.roots.Roots.{Roots}
+use Rattle.dj_headers.specs.Roots.{KnowsRoots}
 use Rattle.dj_headers.specs.Rows.{IsSet, row_at}
 
 -- ---- places
@@ -69,11 +71,12 @@ pub record AreTables (headers : List Header) (places : Places) (by_parents by_su
   pub above : IsTable headers places by_parents
   pub lines : IsTable (map bare headers) places by_superclasses
 
--- what headers keep beside the list: distinct names, their places in the list, and the tables
-pub record KeepsTables (headers : List Header) (heads places : Places) (above lines : List (List ℕ)) : Type 0 where
+-- what headers keep beside the list: distinct names, their places in the list, the tables, and the names of their roots
+pub record KeepsTables (headers : List Header) (heads places : Places) (above lines : List (List ℕ)) (roots : Option Roots) : Type 0 where
   pub distinct : HasDistinctNames headers
   pub in_list : HasPlaces headers heads
   pub tables : AreTables headers places above lines
+  pub known : KnowsRoots headers roots
 
 -- ---- what is above a header
 

@@ -36,7 +36,10 @@ fn is_wider(from: &JType, to: &JType) -> bool
 {
     match from {
         JType::Boolean => false,
-        JType::Byte => matches!(to, JType::Short | JType::Int | JType::Long | JType::Float | JType::Double),
+        JType::Byte => matches!(
+            to,
+            JType::Short | JType::Int | JType::Long | JType::Float | JType::Double
+        ),
         JType::Char => matches!(to, JType::Int | JType::Long | JType::Float | JType::Double),
         JType::Short => matches!(to, JType::Int | JType::Long | JType::Float | JType::Double),
         JType::Int => matches!(to, JType::Long | JType::Float | JType::Double),

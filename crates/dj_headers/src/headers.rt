@@ -1,13 +1,14 @@
 //! Headers of classes, and what stands above what among them.
 
-ghost use Rattle.std.specs.Prelude.{◌≡◌, ◌↔◌, ◌<◌, [], ◌∷◌, ◌++◌, Some, IsTrue, IfOk, IfSome, OnOk, OnErr, MatchOption, Contains, slice_get, length};
+ghost use Rattle.std.specs.Prelude.{◌≡◌, ◌↔◌, ◌<◌, [], ◌∷◌, ◌++◌, Some, IsTrue, IfOk, IfSome, OnOk, OnErr, MatchOption, Contains, slice_get, length, codes};
 ghost use Rattle.dj_names.specs.Headers.{names, IsInterface, IsSubclass, Implements};
+ghost use Rattle.dj_names.specs.Assignable.{object_name};
 ghost use Rattle.dj_headers.specs.Table.{HasPlaces};
 
 use crate::places::{Places, place};
 use crate::table::has_above;
 use crate::tables::Tables;
-use dj_names::{ClassName, Header, Items};
+use dj_names::{ClassName, Header, Items, is_word};
 use std::alloc::{AllocError, Global};
 use std::collections::BTreeMap;
 use std::marker::Model;
@@ -30,7 +31,7 @@ impl Model for Headers {
 
     ghost view = { λ h. h.headers };
 
-    ghost invariant = { λ h. KeepsTables h.headers h.heads h.tables.places h.tables.above.items h.tables.lines.items };
+    ghost invariant = { λ h. KeepsTables h.headers h.heads h.tables.places h.tables.above.items h.tables.lines.items h.tables.roots };
 }
 
 impl Headers {
@@ -87,14 +88,44 @@ impl Headers {
     pub fn is_subclass(&self, lower: &ClassName, upper: &ClassName) -> bool
         ensures subclass { IsTrue result ↔ IsSubclass self.now lower.now upper.now }
     {
-        has_above(&self.tables.places, self.tables.lines.as_slice(), lower, upper)
+        has_above(
+            &self.tables.places,
+            self.tables.lines.as_slice(),
+            lower,
+            upper,
+        )
     }
 
     /// Whether `upper` is `lower`, or is reached from it by superclasses and interfaces.
     pub fn implements(&self, lower: &ClassName, upper: &ClassName) -> bool
         ensures implements { IsTrue result ↔ Implements self.now lower.now upper.now }
     {
-        has_above(&self.tables.places, self.tables.above.as_slice(), lower, upper)
+        has_above(
+            &self.tables.places,
+            self.tables.above.as_slice(),
+            lower,
+            upper,
+        )
+    }
+
+    /// Whether the class is java/lang/Throwable, or reaches it by superclasses.
+    pub fn is_throwable(&self, class: &ClassName) -> bool
+        ensures throwable { IsTrue result ↔ IsSubclass self.now class.now (codes "java/lang/Throwable") }
+    {
+        match &self.tables.roots {
+            Some(roots) => self.is_subclass(class, &roots.throwable),
+            None => is_word(class.as_slice(), "java/lang/Throwable"),
+        }
+    }
+
+    /// Whether the class is java/lang/Object, or reaches it by superclasses and interfaces.
+    pub fn is_object(&self, class: &ClassName) -> bool
+        ensures object { IsTrue result ↔ Implements self.now class.now object_name }
+    {
+        match &self.tables.roots {
+            Some(roots) => self.implements(class, &roots.object),
+            None => is_word(class.as_slice(), "java/lang/Object"),
+        }
     }
 
     /// Whether the class has a header, and is an interface by it.

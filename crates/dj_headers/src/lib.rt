@@ -6,9 +6,12 @@
 mod assignable;
 mod headers;
 mod places;
+mod roots;
 mod rows;
 mod table;
 mod tables;
 
-pub use assignable::{is_above_arrays, is_assignable, is_class_assignable, is_reference, is_subtype};
+pub use assignable::{
+    is_above_arrays, is_assignable, is_class_assignable, is_reference, is_subtype,
+};
 pub use headers::Headers;

@@ -88,7 +88,12 @@ pub fn learn_header(
     ensures extends { Extends places.old places.new }
     ensures index { IsIndex places.old → IsIndex places.new }
 {
-    learn_parents(alloc, places, &header.superclass, header.interfaces.as_slice())?;
+    learn_parents(
+        alloc,
+        places,
+        &header.superclass,
+        header.interfaces.as_slice(),
+    )?;
     let class = learn(alloc, places, &header.name)?;
     Ok(class)
 }

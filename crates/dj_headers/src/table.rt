@@ -103,7 +103,12 @@ fn open_rows(rows: &mut [Items<u64>], class: usize, words: usize) -> Result<(), 
 }
 
 /// Takes all the memory that a header's row and what is above it need.
-pub fn open(alloc: Global, rows: &mut Vec<Items<u64>>, class: usize, words: usize) -> Result<(), AllocError>
+pub fn open(
+    alloc: Global,
+    rows: &mut Vec<Items<u64>>,
+    class: usize,
+    words: usize,
+) -> Result<(), AllocError>
     ensures opened { OnOk result (IsOpened class words rows.new.items) }
     ensures opens { Opens class rows.old.items rows.new.items }
 {
