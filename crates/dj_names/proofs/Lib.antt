@@ -9,5 +9,4 @@ pub mod ClassNameLemmas
 pub mod OneSpelling
 pub mod IdentifiersLemmas
 pub mod SegmentLemmas
-pub mod HeadersLemmas
 pub mod CopyLemmas

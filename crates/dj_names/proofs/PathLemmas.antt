@@ -10,7 +10,7 @@ same_name_by : (x y : Name) (b : Bool) → bytes_eq x y ≡ b → (x ≡ y) ⊎ 
 same_name_by x y true is = inl ((bytes_eq-Decides x y).0 is)
 same_name_by x y false is = inr (λ same. false≢true (sym is ∙ (bytes_eq-Decides x y).1 same))
 
-same_name : (x y : Name) → (x ≡ y) ⊎ (x ≢ y)
+pub same_name : (x y : Name) → (x ≡ y) ⊎ (x ≢ y)
 same_name x y = same_name_by x y (bytes_eq x y) refl
 
 -- no step begins at x

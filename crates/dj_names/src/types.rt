@@ -1,6 +1,6 @@
 //! The types of fields, parameters and results (JVMS 4.3.2).
 
-ghost use Rattle.std.specs.Prelude.{◌≡◌, IfOk};
+ghost use Rattle.std.specs.Prelude.{◌≡◌, ◌↔◌, IsTrue, IfOk};
 ghost use Rattle.dj_names.specs.Types.{view_type};
 ghost use Rattle.dj_names.specs.Descriptors.{words};
 
@@ -57,5 +57,26 @@ impl JType {
             JType::Class(name) => Ok(JType::Class(name.copy(alloc)?)),
             JType::Array(element) => Ok(JType::Array(element.share()?)),
         }
+    }
+}
+
+/// Whether two types are the same.
+pub fn same_type(first: &JType, second: &JType) -> bool
+    ensures same { IsTrue result ↔ (view_type first.now ≡ view_type second.now) }
+{
+    match first {
+        JType::Boolean => matches!(second, JType::Boolean),
+        JType::Byte => matches!(second, JType::Byte),
+        JType::Char => matches!(second, JType::Char),
+        JType::Short => matches!(second, JType::Short),
+        JType::Int => matches!(second, JType::Int),
+        JType::Long => matches!(second, JType::Long),
+        JType::Float => matches!(second, JType::Float),
+        JType::Double => matches!(second, JType::Double),
+        JType::Class(name) => matches!(second, JType::Class(other) if name == other),
+        JType::Array(element) => match second {
+            JType::Array(other) => same_type(element.get(), other.get()),
+            _ => false,
+        },
     }
 }

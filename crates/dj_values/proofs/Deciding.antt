@@ -13,7 +13,8 @@ use Rattle.dj_names.specs.Types as types
 use Rattle.dj_names.specs.Types.{JType, Boolean, Byte, Char, Short, Float, Double, Class, Array, Field, Method}
 use Rattle.dj_names.specs.Descriptors.{spell_type}
 use Rattle.dj_names.specs.Headers.{Name, IsInterface, HasSuperclass, HasParent, IsPath, IsSubclass, Implements}
-use Rattle.dj_names.specs.Assignable.{wider_types, IsReference, object_name, above_arrays, IsSubtype, own_type, wider_number, parent, object, elements, array}
+use Rattle.dj_names.specs.Assignable.{wider_types, IsReference, object_name, above_arrays, IsSubtype}
+use Rattle.dj_names.proofs.AssignableLemmas.{GoesUp, Beyond, ways, plain_way, class_way, array_way}
 use Rattle.dj_names.proofs.OneSpelling.{primitive}
 use Rattle.dj_names.proofs.PathLemmas.{short_subclass, short_implements}
 use Rattle.dj_values.specs.Values.{RefValue, Value, Int, Long, Null, Ref, Action, New, NewArray, GetField, PutField, GetStatic, PutStatic, ArrayLoad, ArrayStore, Invoke, ClassConstant, Enter, Exit, Trap, Answer, Given, Done, Thrown}
@@ -246,51 +247,9 @@ Decides-interface headers class =
 Decides-own_or_wider : (from to : JType) → Decides (is_own_or_wider from to) ((from ≡ to) ⊎ Contains (wider_types from) to)
 Decides-own_or_wider from to = Decides-or _ _ (Decides-type from to) (Decides-among is_type Decides-type (wider_types from) to)
 
--- a class or interface goes to this one otherwise than as itself
-abbrev GoesUp : List Header → Name → Name → Type 0
-GoesUp headers from to = Implements headers from to ⊎ (IsInterface headers from × (to ≡ object_name))
-
 Decides-goes_up : (headers : List Header) (from to : Name) → Decides (goes_up headers from to) (GoesUp headers from to)
 Decides-goes_up headers from to =
     Decides-or _ _ (Decides-implements headers from to) (Decides-and _ _ (Decides-interface headers from) (Decides-name to object_name))
-
--- how a type goes to another that isn't it, nor a wider number type
-abbrev Beyond : List Header → JType → JType → Type 0
-Beyond headers Boolean to = ⊥
-Beyond headers Byte to = ⊥
-Beyond headers Char to = ⊥
-Beyond headers Short to = ⊥
-Beyond headers types.Int to = ⊥
-Beyond headers types.Long to = ⊥
-Beyond headers Float to = ⊥
-Beyond headers Double to = ⊥
-Beyond headers (Class from) to = (name : Name) × (to ≡ Class name) × GoesUp headers from name
-Beyond headers (Array from) to = (IsReference from × ((element : JType) × (to ≡ Array element) × IsSubtype headers from element)) ⊎ ((name : Name) × (to ≡ Class name) × Contains above_arrays name)
-
--- how a type goes to another
-abbrev Ways : List Header → JType → JType → Type 0
-Ways headers from to = ((from ≡ to) ⊎ Contains (wider_types from) to) ⊎ Beyond headers from to
-
-ways : (headers : List Header) (from to : JType) → IsSubtype headers from to → Ways headers from to
-ways headers from to own_type = inl (inl refl)
-ways headers from to (wider_number within) = inl (inr within)
-ways headers from to (parent {from = lower} {to = upper} above) = inr (upper, refl, inl above)
-ways headers from to (object interface) = inr (object_name, refl, inr (interface, refl))
-ways headers from to (elements {from = element} {to = wanted} reference goes) = inr (inl (reference, (wanted, refl, goes)))
-ways headers from to (array {to = upper} above) = inr (inr (upper, refl, above))
-
-plain_way : (headers : List Header) (from to : JType) → (from ≡ to) ⊎ Contains (wider_types from) to → IsSubtype headers from to
-plain_way headers from to (inl same) = subst (IsSubtype headers from) same own_type
-plain_way headers from to (inr wider) = wider_number wider
-
-class_way : (headers : List Header) (from : Name) (to : JType) → Beyond headers (Class from) to → IsSubtype headers (Class from) to
-class_way headers from to (name, is, inl above) = subst (IsSubtype headers (Class from)) (sym is) (parent above)
-class_way headers from to (name, is, inr (interface, same)) =
-    subst (IsSubtype headers (Class from)) (sym (is ∙ ap Class same)) (object interface)
-
-array_way : (headers : List Header) (from to : JType) → Beyond headers (Array from) to → IsSubtype headers (Array from) to
-array_way headers from to (inl (reference, (element, is, goes))) = subst (IsSubtype headers (Array from)) (sym is) (elements reference goes)
-array_way headers from to (inr (name, is, above)) = subst (IsSubtype headers (Array from)) (sym is) (array above)
 
 -- a type that goes to no other but wider numbers
 plain_subtype : (headers : List Header) (from to : JType) → (Beyond headers from to → ⊥) → Decides (is_own_or_wider from to) (IsSubtype headers from to)

@@ -1,5 +1,6 @@
 -- What the public contracts rest on, in reading order.
 pub mod Values
+pub mod Views
 pub mod Fits
 pub mod Answers
 -- Tests of it, each of which decides what it tests (`tests_decide`).

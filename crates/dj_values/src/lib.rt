@@ -3,8 +3,22 @@
 //! The layers above use `tests_decide`, by which the tests that a run makes of answers decide what an answer can be, and `longer_runs_show_more`, by which a run that goes on from one that was cut shows more.
 #![tactic(auto)]
 
+mod action;
+mod answer;
+mod answering;
 mod answers;
+mod fitting;
+mod reference;
 mod runs;
+mod show;
+mod types;
+mod value;
 
+pub use action::{Action, InvokeKind};
+pub use answer::Answer;
+pub use answering::fits;
 pub use answers::tests_decide;
+pub use reference::{RefId, RefValue};
 pub use runs::longer_runs_show_more;
+pub use show::{End, Show};
+pub use value::{Value, copy_values};

@@ -3,34 +3,13 @@
 ghost use Rattle.std.specs.Prelude.{◌≡◌, ◌↔◌, IsTrue, option_map};
 ghost use Rattle.dj_names.specs.Types.{view_descriptor, view_type, view_types};
 
-use dj_names::{ClassName, Descriptor, JType};
+use dj_names::{ClassName, Descriptor, JType, same_type};
 
 /// Whether two lists are of the same names.
 pub fn same_names(first: &[ClassName], second: &[ClassName]) -> bool
     ensures same { IsTrue result ↔ (first.now ≡ second.now) }
 {
     first == second
-}
-
-/// Whether two types are the same.
-fn same_type(first: &JType, second: &JType) -> bool
-    ensures same { IsTrue result ↔ (view_type first.now ≡ view_type second.now) }
-{
-    match first {
-        JType::Boolean => matches!(second, JType::Boolean),
-        JType::Byte => matches!(second, JType::Byte),
-        JType::Char => matches!(second, JType::Char),
-        JType::Short => matches!(second, JType::Short),
-        JType::Int => matches!(second, JType::Int),
-        JType::Long => matches!(second, JType::Long),
-        JType::Float => matches!(second, JType::Float),
-        JType::Double => matches!(second, JType::Double),
-        JType::Class(name) => matches!(second, JType::Class(other) if name == other),
-        JType::Array(element) => match second {
-            JType::Array(other) => same_type(element.get(), other.get()),
-            _ => false,
-        },
-    }
 }
 
 /// Whether two lists are of the same types.

@@ -1,0 +1,49 @@
+use Rattle.std.proofs.Common.{◌≡◌, inl, inr, sym, ap, subst, ◌∙◌}
+use Rattle.std.proofs.lemmas.Bool.{false≢true, both_ways}
+use Rattle.dj_names.specs.Types.{JType, view_type}
+use Rattle.dj_headers.proofs.TypeViews.{array_class, array_of_references, array_of_primitives, plain_subtype}
+use Rattle.dj_headers.proofs.assignable.+is_subtype.Goals as goal
+
+pub returns-in-Class-to-2 : goal.returns-in-Class-to-2
+returns-in-Class-to-2 t c =
+    let e = array_class c.args.headers.now c.args.from.now c.args.to.now c.in-Array.from c.in-Class-to-2.to c.in-Array.is c.in-Class-to-2.is in
+    record { subtype = (λ yes. e.0 (c.is_above_arrays.ensures.above.0 yes), λ goes. c.is_above_arrays.ensures.above.1 (e.1 goes)) }
+
+pub returns-then-is_reference : goal.returns-then-is_reference
+returns-then-is_reference t c =
+    let e = array_of_references c.args.headers.now c.args.from.now c.args.to.now c.in-Array.from c.in-Array-to.to c.in-Array.is c.in-Array-to.is (rw (← c.get.ensures.value) (c.is_reference.ensures.reference.0 c.if-is_reference.true)) in
+    record {
+      subtype = (
+        λ yes. e.0 (rw (← c.get-then-is_reference.ensures.value, ← c.get-then-is_reference-2.ensures.value) (c.is_subtype.ensures.subtype.0 yes)),
+        λ goes. c.is_subtype.ensures.subtype.1 (rw (c.get-then-is_reference.ensures.value, c.get-then-is_reference-2.ensures.value) (e.1 goes)),
+      );
+    }
+
+pub returns-else-is_reference : goal.returns-else-is_reference
+returns-else-is_reference t c =
+    let e = array_of_primitives c.args.headers.now c.args.from.now c.args.to.now c.in-Array.from c.in-Array-to.to c.in-Array.is c.in-Array-to.is
+    (λ reference. both_ways c.is_reference.result c.if-is_reference.false (c.is_reference.ensures.reference.1 (rw c.get.ensures.value reference))) in
+    record {
+      subtype = (
+        λ yes. e.0 (rw (← c.get-else-is_reference.ensures.value, ← c.get-else-is_reference-2.ensures.value) (c.same_type.ensures.same.0 yes)),
+        λ goes. c.same_type.ensures.same.1 (rw (c.get-else-is_reference.ensures.value, c.get-else-is_reference-2.ensures.value) (e.1 goes)),
+      );
+    }
+
+pub returns-then-same_type : goal.returns-then-same_type
+returns-then-same_type t c =
+    let e = plain_subtype c.args.headers.now c.args.from.now (view_type c.args.to.now) c.in_default.not-Class c.in_default.not-Array in
+    record { subtype = (λ yes. e.1 (inl (c.same_type-in_default.ensures.same.0 yes)), λ goes. c.if-same_type.true) }
+
+pub returns-else-same_type : goal.returns-else-same_type
+returns-else-same_type t c =
+    let e = plain_subtype c.args.headers.now c.args.from.now (view_type c.args.to.now) c.in_default.not-Class c.in_default.not-Array in
+    record {
+      subtype = (
+        λ yes. e.1 (inr (c.is_wider.ensures.wider.0 yes)),
+        λ goes. elim (e.0 goes) [
+          | inl same ↦ absurd (both_ways c.same_type-in_default.result c.if-same_type.false (c.same_type-in_default.ensures.same.1 same))
+          | inr wider ↦ c.is_wider.ensures.wider.1 wider
+        ],
+      );
+    }

@@ -1,5 +1,0 @@
-use Rattle.std.proofs.Common.{◌≡◌, take}
-use Rattle.dj_names.proofs.header.Headers.copy.Given as goal
-
-abbrev pub invariant-loop-header : goal.invariant-loop-header
-invariant-loop-header l = l.headers ≡ take l.header-index l.header-items
