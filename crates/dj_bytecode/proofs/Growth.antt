@@ -1,13 +1,13 @@
 -- A run of the machine only adds to the actions, and one of fewer steps is below one of more.
 use Rattle.std.proofs.Common.{◌≡◌, ℕ, zero, suc, ◌≤◌, List, [], ◌∷◌, Option, Some, None, refl, arith}
 use Rattle.dj_names.specs.declared.header.Header.{Header}
-use Rattle.dj_names.specs.Types.{JType, result_of, view_descriptor}
+use Rattle.dj_names.specs.Types.{JType, result_of}
 use Rattle.dj_values.specs.Values.{Value, Action, Answer, IsBelow}
 use Rattle.dj_values.specs.Outcomes.{Throws, More, Stuck, there, then_on, State, Outcome, Is, Stops, outside, opening, IsFront, actions_of, Below}
 use Rattle.dj_values.proofs.Growth.{Rises, rises-is, rises-stops, rises-outside, rises-bind, below-refl, below-bind, shown-below}
-use Rattle.dj_code.specs.declared.code.Code.{Code}
-use Rattle.dj_code.specs.Instructions.{Instructions}
-use Rattle.dj_bytecode.specs.Machine.{Slots, local_slots, of_kind, Family, Strict, Loads, Returns, meaning_of, Place, Before, Returned, strict, results, step, step_first, handler_for, caught, pc_of, onward, steps, first_locals, bytecode_show}
+use Rattle.dj_instructions.specs.Instructions.{Instructions}
+use Rattle.dj_code.specs.MethodCode.{Code}
+use Rattle.dj_bytecode.specs.Machine.{Slots, local_slots, Family, Strict, Loads, Returns, NotYet, meaning_of, Place, Before, Returned, strict, step, step_first, handler_for, caught, pc_of, onward, steps, first_locals, bytecode_show}
 
 module _ {S : Type 0} (headers : List Header) (slots : Slots S) (code : Code) where
   -- a run of the machine, from the first of these instructions on
@@ -19,11 +19,12 @@ module _ {S : Type 0} (headers : List Header) (slots : Slots S) (code : Code) wh
   rises-step : (result : Option JType) (family : Family) (rest : Instructions) (stack : List Value) → Rises (step headers slots result family rest stack)
   rises-step result (Strict count operation) rest stack =
       rises-bind (outside headers (strict count operation stack)) _ (rises-outside headers (strict count operation stack)) (λ next. rises-is (Before rest next))
-  rises-step result (Loads kind slot) rest stack =
-      rises-bind (λ state. outside headers (then_on (there (slots.read state.store slot)) (of_kind kind)) state) _
-      (record { rises = λ state. (rises-outside headers (then_on (there (slots.read state.store slot)) (of_kind kind))).rises state }) (λ value. rises-is (Before rest (value ∷ stack)))
-  rises-step result (Returns kind) rest stack =
-      rises-bind (outside headers (results kind result stack)) _ (rises-outside headers (results kind result stack)) (λ value. rises-is (Returned value))
+  rises-step result (Loads of_kind slot) rest stack =
+      rises-bind (λ state. outside headers (then_on (there (slots.read state.store slot)) of_kind) state) _
+      (record { rises = λ state. (rises-outside headers (then_on (there (slots.read state.store slot)) of_kind)).rises state }) (λ value. rises-is (Before rest (value ∷ stack)))
+  rises-step result (Returns gives) rest stack =
+      rises-bind (outside headers (gives result stack)) _ (rises-outside headers (gives result stack)) (λ value. rises-is (Returned value))
+  rises-step result NotYet rest stack = rises-stops More
 
   rises-first : (result : Option JType) (rest : Instructions) (stack : List Value) → Rises (step_first headers slots result rest stack)
   rises-first result [] stack = rises-stops Stuck
@@ -49,7 +50,7 @@ module _ {S : Type 0} (headers : List Header) (slots : Slots S) (code : Code) wh
   pub rises-steps : (bound : ℕ) (rest : Instructions) (stack : List Value) → Rises (steps headers slots code bound rest stack)
   rises-steps zero rest stack = rises-stops _
   rises-steps (suc bound) rest stack =
-      let result = result_of (view_descriptor code.descriptor) in
+      let result = result_of code.descriptor in
       rises-bind (λ state. caught headers code (pc_of rest) (step_first headers slots result rest stack state)) _
       (rises-caught (pc_of rest) (step_first headers slots result rest stack) (rises-first result rest stack)) (rises-onward (steps headers slots code bound) (rises-steps bound))
 
@@ -63,7 +64,7 @@ module _ {S : Type 0} (headers : List Header) (slots : Slots S) (code : Code) wh
   below-steps zero more less rest stack state = (rises-steps more rest stack).rises state
   below-steps (suc bound) zero less rest stack state = absurd (omega arith)
   below-steps (suc bound) (suc more) less rest stack state =
-      let one = caught headers code (pc_of rest) (step_first headers slots (result_of (view_descriptor code.descriptor)) rest stack state) in
+      let one = caught headers code (pc_of rest) (step_first headers slots (result_of code.descriptor) rest stack state) in
       below-bind one one _ _ (below-refl one) (below-onward (steps headers slots code bound) (steps headers slots code more) (below-steps bound more (omega arith))) (rises-onward (steps headers slots code more) (rises-steps more))
 
 -- ---- methods

@@ -1,22 +1,20 @@
 -- The machine: what an instruction does, and what a bounded run of a method's code comes to (JVMS 2.6, 2.10, 2.11, 6.5).
-use Rattle.std.specs.Prelude.{ℕ, zero, suc, ◌-◌, ◌&&◌, nat_le, nat_lt, Bool, true, false, if◌then◌else◌, ℤ, pos, length, replicate, List, [], ◌∷◌, ◌++◌, Option, Some, None, slice_index_or, slice_set}
+use Rattle.std.specs.Prelude.{ℕ, zero, suc, ◌-◌, ◌==◌, ◌&&◌, nat_le, nat_lt, Bool, true, false, if◌then◌else◌, ℤ, pos, length, replicate, List, [], ◌∷◌, ◌++◌, Option, Some, None, slice_index_or, slice_set}
 use Rattle.std.specs.Int.{w8, w16, w32, int_bit_and, int_rem_euclid, int_wrap, int_wrapping_add, int_wrapping_sub, int_wrapping_mul}
 use Rattle.dj_names.specs.declared.header.Header.{Header}
 use Rattle.dj_names.specs.Types as types
-use Rattle.dj_names.specs.Types.{JType, Boolean, Byte, Char, Short, Float, Double, Class, Array, result_of, view_descriptor}
+use Rattle.dj_names.specs.Types.{JType, Boolean, Byte, Char, Short, Float, Double, Class, Array, result_of}
 use Rattle.dj_values.specs.Values.{RefValue, Value, Int, Long, Null, Ref, Answer, Show}
 use Rattle.dj_values.specs.Answers.{is_subclass}
 use Rattle.dj_values.specs.Outcomes.{Throws, More, Stuck, Reply, Gives, Halts, there, then_on, State, Outcome, Is, Stops, bind, outside, opening, shown}
-use Rattle.dj_code.specs.declared.code.Kind.{Kind}
-use Rattle.dj_code.specs.declared.code.Kind.TheVariants as kind
-use Rattle.dj_code.specs.declared.code.Calc.{Calc}
-use Rattle.dj_code.specs.declared.code.Calc.TheVariants as calc
-use Rattle.dj_code.specs.declared.code.Constant.TheVariants as constant
-use Rattle.dj_code.specs.declared.code.Instruction.{Instruction}
-use Rattle.dj_code.specs.declared.code.Instruction.TheVariants as op
-use Rattle.dj_code.specs.declared.code.Handler.{Handler}
-use Rattle.dj_code.specs.declared.code.Code.{Code}
-use Rattle.dj_code.specs.Instructions.{Instructions, code_from}
+use Rattle.dj_names.specs.declared.members.Constant.TheVariants as constant
+use Rattle.dj_instructions.specs.declared.kinds.Kind.TheVariants as kind
+use Rattle.dj_instructions.specs.declared.kinds.Calc.{Calc}
+use Rattle.dj_instructions.specs.declared.kinds.Calc.TheVariants as calc
+use Rattle.dj_instructions.specs.Instructions.{Instruction, Instructions}
+use Rattle.dj_instructions.specs.Instructions as op
+use Rattle.dj_code.specs.declared.method_code.Handler.{Handler}
+use Rattle.dj_code.specs.MethodCode.{Code}
 
 -- ---- the locals
 
@@ -49,32 +47,133 @@ with_two (first ∷ []) next = Halts Stuck
 with_two (first ∷ second ∷ []) next = next first second
 with_two (first ∷ second ∷ third ∷ rest) next = Halts Stuck
 
--- `iadd`, `isub` and `imul` keep the low 32 bits
-abbrev pub calculate : Calc → ℤ → ℤ → ℤ
-calculate calc.Add left right = int_wrapping_add w32 left right
-calculate calc.Sub left right = int_wrapping_sub w32 left right
-calculate calc.Mul left right = int_wrapping_mul w32 left right
+-- an int as a value of its kind (JVMS 2.11.1)
+abbrev pub int_value : Value → Reply Value
+int_value value = with_int value (λ number. Gives (Int number))
 
--- a value of this kind (JVMS 2.11.1)
-abbrev pub of_kind : Kind → Value → Reply Value
-of_kind kind.Int value = with_int value (λ number. Gives (Int number))
+-- ---- what a method returns
+
+-- an int that a method returns: a narrower result keeps its low bits, a boolean the lowest (JVMS 6.5, `ireturn`)
+abbrev pub narrowed : JType → ℤ → Reply Value
+narrowed Boolean number = Gives (Int (int_bit_and w32 number (pos 1)))
+narrowed Byte number = Gives (Int (int_wrap w8 number))
+narrowed Char number = Gives (Int (int_rem_euclid number (pos 65536)))
+narrowed Short number = Gives (Int (int_wrap w16 number))
+narrowed types.Int number = Gives (Int number)
+narrowed types.Long number = Halts Stuck
+narrowed Float number = Halts Stuck
+narrowed Double number = Halts Stuck
+narrowed (Class name) number = Halts Stuck
+narrowed (Array element) number = Halts Stuck
+
+-- what `return` gives a method with this result; a return of another form than its result's is stuck
+abbrev pub returned_nothing : Option JType → List Value → Reply (Option Value)
+returned_nothing None stack = Gives None
+returned_nothing (Some type) stack = Halts Stuck
+
+-- and what `ireturn` gives
+abbrev pub returned_int : Option JType → List Value → Reply (Option Value)
+returned_int None stack = Halts Stuck
+returned_int (Some type) [] = Halts Stuck
+returned_int (Some type) (top ∷ below) = with_int top (λ number. then_on (narrowed type number) (λ value. Gives (Some value)))
 
 -- ---- families of instructions
 
 -- how an instruction works: a strict one takes so many values from the stack, and pushes what an operation on them gives, if it gives one;
--- others push a local, or return
+-- others push a local as a value of a kind, or return what the method's result and the stack give; the machine doesn't run the rest yet
 pub data Family : Type 0 where
   Strict : ℕ → (List Value → Reply (Option Value)) → Family
-  Loads : Kind → ℕ → Family
-  Returns : Option Kind → Family
+  Loads : (Value → Reply Value) → ℕ → Family
+  Returns : (Option JType → List Value → Reply (Option Value)) → Family
+  NotYet : Family
+
+-- an operation on two ints
+abbrev pub on_ints : (ℤ → ℤ → ℤ) → Family
+on_ints operation = Strict 2 (λ operands. with_two operands (λ first second. with_int first (λ left. with_int second (λ right. Gives (Some (Int (operation left right)))))))
+
+-- `iadd`, `isub` and `imul` keep the low 32 bits
+abbrev pub int_calculation : Calc → Family
+int_calculation calc.Add = on_ints (int_wrapping_add w32)
+int_calculation calc.Sub = on_ints (int_wrapping_sub w32)
+int_calculation calc.Mul = on_ints (int_wrapping_mul w32)
+int_calculation calc.Div = NotYet
+int_calculation calc.Rem = NotYet
+int_calculation calc.Neg = NotYet
+int_calculation calc.Shl = NotYet
+int_calculation calc.Shr = NotYet
+int_calculation calc.Ushr = NotYet
+int_calculation calc.And = NotYet
+int_calculation calc.Or = NotYet
+int_calculation calc.Xor = NotYet
 
 -- what each instruction does
 abbrev pub meaning_of : Instruction → Family
+meaning_of op.Nop = NotYet
+meaning_of op.PushNull = NotYet
 meaning_of (op.Push (constant.Int number)) = Strict 0 (λ operands. Gives (Some (Int number)))
-meaning_of (op.Load kind slot) = Loads kind slot
-meaning_of (op.Calc calc kind.Int) =
-    Strict 2 (λ operands. with_two operands (λ first second. with_int first (λ left. with_int second (λ right. Gives (Some (Int (calculate calc left right)))))))
-meaning_of (op.Return kind) = Returns kind
+meaning_of (op.Push (constant.Long number)) = NotYet
+meaning_of (op.Push (constant.Text units)) = NotYet
+meaning_of (op.Push (constant.Float bits)) = NotYet
+meaning_of (op.Push (constant.Double bits)) = NotYet
+meaning_of (op.PushClass class) = NotYet
+meaning_of (op.PushHandle kind interface owner name descriptor) = NotYet
+meaning_of (op.PushMethodType descriptor) = NotYet
+meaning_of (op.Load kind.Int slot) = Loads int_value slot
+meaning_of (op.Load kind.Long slot) = NotYet
+meaning_of (op.Load kind.Float slot) = NotYet
+meaning_of (op.Load kind.Double slot) = NotYet
+meaning_of (op.Load kind.Ref slot) = NotYet
+meaning_of (op.Store kind slot) = NotYet
+meaning_of (op.ArrayLoad element) = NotYet
+meaning_of (op.ArrayStore element) = NotYet
+meaning_of op.Pop = NotYet
+meaning_of op.Pop2 = NotYet
+meaning_of op.Dup = NotYet
+meaning_of op.DupX1 = NotYet
+meaning_of op.DupX2 = NotYet
+meaning_of op.Dup2 = NotYet
+meaning_of op.Dup2X1 = NotYet
+meaning_of op.Dup2X2 = NotYet
+meaning_of op.Swap = NotYet
+meaning_of (op.Calc calc kind.Int) = int_calculation calc
+meaning_of (op.Calc calc kind.Long) = NotYet
+meaning_of (op.Calc calc kind.Float) = NotYet
+meaning_of (op.Calc calc kind.Double) = NotYet
+meaning_of (op.Calc calc kind.Ref) = NotYet
+meaning_of (op.Iinc slot by) = NotYet
+meaning_of (op.Convert from to) = NotYet
+meaning_of (op.Compare kind greater) = NotYet
+meaning_of (op.IfZero test target) = NotYet
+meaning_of (op.IfInts test target) = NotYet
+meaning_of (op.IfRefs equal target) = NotYet
+meaning_of (op.IfNull null target) = NotYet
+meaning_of (op.Goto target) = NotYet
+meaning_of (op.TableSwitch low targets other) = NotYet
+meaning_of (op.LookupSwitch cases other) = NotYet
+meaning_of (op.Return None) = Returns returned_nothing
+meaning_of (op.Return (Some kind.Int)) = Returns returned_int
+meaning_of (op.Return (Some kind.Long)) = NotYet
+meaning_of (op.Return (Some kind.Float)) = NotYet
+meaning_of (op.Return (Some kind.Double)) = NotYet
+meaning_of (op.Return (Some kind.Ref)) = NotYet
+meaning_of (op.GetStatic field) = NotYet
+meaning_of (op.PutStatic field) = NotYet
+meaning_of (op.GetField field) = NotYet
+meaning_of (op.PutField field) = NotYet
+meaning_of (op.InvokeVirtual method) = NotYet
+meaning_of (op.InvokeSpecial method) = NotYet
+meaning_of (op.InvokeStatic method) = NotYet
+meaning_of (op.InvokeInterface method) = NotYet
+meaning_of (op.InvokeDynamic bootstrap name descriptor) = NotYet
+meaning_of (op.New class) = NotYet
+meaning_of (op.NewArray element) = NotYet
+meaning_of (op.MultiNewArray class sizes) = NotYet
+meaning_of op.ArrayLength = NotYet
+meaning_of op.Throw = NotYet
+meaning_of (op.CheckCast class) = NotYet
+meaning_of (op.InstanceOf class) = NotYet
+meaning_of op.MonitorEnter = NotYet
+meaning_of op.MonitorExit = NotYet
 
 -- ---- one step
 
@@ -98,39 +197,15 @@ pushed stack (Some value) = value ∷ stack
 abbrev pub strict : ℕ → (List Value → Reply (Option Value)) → List Value → Reply (List Value)
 strict count operation stack = taken count [] stack (λ operands below. then_on (operation operands) (λ given. Gives (pushed below given)))
 
--- an int that a method returns: a narrower result keeps its low bits, a boolean the lowest (JVMS 6.5, `ireturn`)
-abbrev pub narrowed : JType → ℤ → Reply Value
-narrowed Boolean number = Gives (Int (int_bit_and w32 number (pos 1)))
-narrowed Byte number = Gives (Int (int_wrap w8 number))
-narrowed Char number = Gives (Int (int_rem_euclid number (pos 65536)))
-narrowed Short number = Gives (Int (int_wrap w16 number))
-narrowed types.Int number = Gives (Int number)
-narrowed types.Long number = Halts Stuck
-narrowed Float number = Halts Stuck
-narrowed Double number = Halts Stuck
-narrowed (Class name) number = Halts Stuck
-narrowed (Array element) number = Halts Stuck
-
--- what a return of a value of this kind gives a method with this result
-abbrev pub result_value : Kind → JType → Value → Reply Value
-result_value kind.Int type value = with_int value (narrowed type)
-
--- what a method with this result returns from a stack; a return of another form than its result's is stuck
-abbrev pub results : Option Kind → Option JType → List Value → Reply (Option Value)
-results None None stack = Gives None
-results None (Some type) stack = Halts Stuck
-results (Some kind) None stack = Halts Stuck
-results (Some kind) (Some type) [] = Halts Stuck
-results (Some kind) (Some type) (top ∷ below) = then_on (result_value kind type top) (λ value. Gives (Some value))
-
 -- an instruction in front of others, by its family
 abbrev pub step : {S : Type 0} → List Header → Slots S → Option JType → Family → Instructions → List Value → State S → Outcome S Place
 step headers slots result (Strict count operation) rest stack state =
     bind (outside headers (strict count operation stack) state) (λ next. Is (Before rest next))
-step headers slots result (Loads kind slot) rest stack state =
-    bind (outside headers (then_on (there (slots.read state.store slot)) (of_kind kind)) state) (λ value. Is (Before rest (value ∷ stack)))
-step headers slots result (Returns kind) rest stack state =
-    bind (outside headers (results kind result stack) state) (λ value. Is (Returned value))
+step headers slots result (Loads of_kind slot) rest stack state =
+    bind (outside headers (then_on (there (slots.read state.store slot)) of_kind) state) (λ value. Is (Before rest (value ∷ stack)))
+step headers slots result (Returns gives) rest stack state =
+    bind (outside headers (gives result stack) state) (λ value. Is (Returned value))
+step headers slots result NotYet rest stack state = Stops More state
 
 -- the first of these instructions; past the last one nothing is left to run
 abbrev pub step_first : {S : Type 0} → List Header → Slots S → Option JType → Instructions → List Value → State S → Outcome S Place
@@ -166,6 +241,11 @@ handler_for headers pc reference [] = None
 handler_for headers pc reference (first ∷ rest) =
     if takes headers pc reference first then Some first.target else handler_for headers pc reference rest
 
+-- the instructions from this offset on; none where none begins there
+abbrev pub code_from : ℕ → Instructions → Instructions
+code_from pc [] = []
+code_from pc (first ∷ rest) = if first.0 == pc then first ∷ rest else code_from pc rest
+
 -- an exception goes on in its handler, with the reference alone on the stack
 abbrev pub caught : {S : Type 0} → List Header → Code → ℕ → Outcome S Place → Outcome S Place
 caught headers code pc (Is place state) = Is place state
@@ -193,7 +273,7 @@ onward run (Returned value) state = Is value state
 abbrev pub steps : {S : Type 0} → List Header → Slots S → Code → ℕ → Instructions → List Value → State S → Outcome S (Option Value)
 steps headers slots code zero rest stack state = Stops More state
 steps headers slots code (suc bound) rest stack state =
-    bind (caught headers code (pc_of rest) (step_first headers slots (result_of (view_descriptor code.descriptor)) rest stack state)) (onward (steps headers slots code bound))
+    bind (caught headers code (pc_of rest) (step_first headers slots (result_of code.descriptor) rest stack state)) (onward (steps headers slots code bound))
 
 -- the slots of arguments; a long takes two
 abbrev pub slots_of : List Value → Locals

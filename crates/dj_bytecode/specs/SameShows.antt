@@ -2,13 +2,13 @@
 use Rattle.std.specs.Prelude.{◌≡◌, ℕ, List, ◌++◌}
 use Rattle.dj_names.specs.declared.header.Header.{Header}
 use Rattle.dj_names.specs.declared.members.ClassMembers.{ClassMembers}
-use Rattle.dj_names.specs.Types.{parameters_of, view_descriptor}
+use Rattle.dj_names.specs.Types.{parameters_of}
 use Rattle.dj_names.specs.Headers.{Name, HasDistinctNames, HasParent, IsPath}
 use Rattle.dj_syntax.specs.Trees.{Body}
 use Rattle.dj_values.specs.Values.{Value, Answer, IsBelow}
 use Rattle.dj_values.specs.Fits.{AreArguments, is_static}
 use Rattle.dj_meaning.specs.Meaning.{source_show}
-use Rattle.dj_code.specs.declared.code.Code.{Code}
+use Rattle.dj_code.specs.MethodCode.{Code}
 use Rattle.dj_bytecode.specs.Machine.{bytecode_show}
 
 -- no class stands above itself
@@ -24,7 +24,7 @@ pub record MayRun (world headers : List Header) : Type 0 where
 
 -- arguments that fit a method: `this` first where it isn't static
 abbrev pub AreArgumentsOf : List Header → Code → List Value → Type 0
-AreArgumentsOf headers code = AreArguments headers code.class (is_static code.flags) (parameters_of (view_descriptor code.descriptor))
+AreArgumentsOf headers code = AreArguments headers code.class (is_static code.flags) (parameters_of code.descriptor)
 
 -- whatever classes run, whatever the arguments and answers: each bounded run of one side is below one of the other
 pub record SameShows (world : List Header) (members : List ClassMembers) (code : Code) (body : Body) : Type 0 where

@@ -3,7 +3,7 @@
 ghost use Rattle.std.specs.Prelude.{ℕ, ◌≤◌, List};
 ghost use Rattle.dj_names.specs.declared.header.Header.{Header};
 ghost use Rattle.dj_values.specs.Values.{Value, Answer, IsBelow};
-ghost use Rattle.dj_code.specs.declared.code.Code.{Code};
+ghost use Rattle.dj_code.specs.MethodCode.{Code};
 ghost use Rattle.dj_bytecode.specs.Machine.{bytecode_show};
 
 /// A run of more steps shows what one of fewer shows, or goes on from it.
