@@ -3,3 +3,4 @@ pub mod RawIsExact
 pub mod ListingIsOne
 pub mod PoolLookups
 pub mod Meant
+pub mod SwitchReading

@@ -11,8 +11,10 @@ mod jumps;
 mod kinds;
 mod members;
 mod objects;
+mod plain;
 mod pool_names;
 mod references;
+mod switches;
 mod types;
 
 pub use instruction::Instruction;
