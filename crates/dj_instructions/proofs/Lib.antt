@@ -4,3 +4,4 @@ pub mod ListingIsOne
 pub mod PoolLookups
 pub mod Meant
 pub mod SwitchReading
+pub mod OperandReading

@@ -23,7 +23,7 @@ made_more item f n bytes rest after found pushed x so_far next is =
     }
 
 -- a number of four bytes keeps its sign as it is passed on
-kept : (bytes rest : List ℕ) (x : ℕ) (z : ℤ) → Spells u4 bytes x rest → z ≡ cast_signed w32 x → cast_signed w32 (cast_unsigned w32 z) ≡ cast_signed w32 x
+pub kept : (bytes rest : List ℕ) (x : ℕ) (z : ℤ) → Spells u4 bytes x rest → z ≡ cast_signed w32 x → cast_signed w32 (cast_unsigned w32 z) ≡ cast_signed w32 x
 unfolding number
 kept bytes rest x z spells is = rw is (ap (cast_signed w32) (of_z-to_z w32 x spells.fits))
 

@@ -11,6 +11,7 @@ mod jumps;
 mod kinds;
 mod members;
 mod objects;
+mod operands;
 mod plain;
 mod pool_names;
 mod references;
