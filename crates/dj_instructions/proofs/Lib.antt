@@ -5,3 +5,4 @@ pub mod PoolLookups
 pub mod Meant
 pub mod SwitchReading
 pub mod OperandReading
+pub mod OpcodeReading

@@ -381,6 +381,6 @@ plain pool pc form.Wide op x y = Known None
 -- what an instruction at this pc means
 abbrev pub meaning_of : List Entry → ℕ → Raw → Meaning
 meaning_of pool pc (raw.Plain op x y) = plain pool pc (form_of op) op x y
-meaning_of pool pc (raw.TableSwitch t) = Known (table_switch pc t)
-meaning_of pool pc (raw.LookupSwitch l) = Known (lookup_switch pc l)
-meaning_of pool pc (raw.Wide w) = Known (wide w)
+meaning_of pool pc (raw.TableSwitch op t) = Known (table_switch pc t)
+meaning_of pool pc (raw.LookupSwitch op l) = Known (lookup_switch pc l)
+meaning_of pool pc (raw.Wide op w) = Known (wide w)

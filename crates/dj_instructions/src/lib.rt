@@ -14,6 +14,7 @@ mod objects;
 mod operands;
 mod plain;
 mod pool_names;
+mod reading;
 mod references;
 mod switches;
 mod types;

@@ -47,7 +47,7 @@ fn wide_opcode_at(bytes: &[u8], end: usize) -> Result<(u8, &[u8]), Stop<BadKind>
 }
 
 /// What stands behind `wide`.
-fn widened_at(bytes: &[u8], end: usize) -> Result<(Option<Instruction>, &[u8]), Stop<BadKind>>
+pub fn widened_at(bytes: &[u8], end: usize) -> Result<(Option<Instruction>, &[u8]), Stop<BadKind>>
     ensures reads { ReadsAs widened (λ w found. found ≡ wide w) (λ x. (option_map view_instruction x.0, x.1.now)) end bytes.now result }
 {
     let (opcode, rest) = wide_opcode_at(bytes, end)?;
@@ -60,7 +60,7 @@ fn widened_at(bytes: &[u8], end: usize) -> Result<(Option<Instruction>, &[u8]), 
 }
 
 /// One byte behind an opcode.
-fn byte_at<'a>(
+pub fn byte_at<'a>(
     alloc: Global,
     pool: &Pool,
     pc: u32,
@@ -77,7 +77,7 @@ fn byte_at<'a>(
 }
 
 /// Two bytes behind an opcode.
-fn short_at<'a>(
+pub fn short_at<'a>(
     alloc: Global,
     pool: &Pool,
     pc: u32,
@@ -94,7 +94,7 @@ fn short_at<'a>(
 }
 
 /// Four bytes behind `goto_w`.
-fn word_at<'a>(
+pub fn word_at<'a>(
     pool: &Pool,
     pc: u32,
     opcode: u8,
@@ -110,7 +110,7 @@ fn word_at<'a>(
 }
 
 /// What stands behind `iinc`.
-fn step_at<'a>(
+pub fn step_at<'a>(
     pool: &Pool,
     pc: u32,
     opcode: u8,
@@ -127,7 +127,7 @@ fn step_at<'a>(
 }
 
 /// What stands behind `invokeinterface` and `invokedynamic`.
-fn counted_at<'a>(
+pub fn counted_at<'a>(
     alloc: Global,
     pool: &Pool,
     pc: u32,
@@ -145,7 +145,7 @@ fn counted_at<'a>(
 }
 
 /// What stands behind `multianewarray`.
-fn sizes_at<'a>(
+pub fn sizes_at<'a>(
     alloc: Global,
     pool: &Pool,
     pc: u32,
