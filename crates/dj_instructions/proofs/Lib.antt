@@ -6,3 +6,4 @@ pub mod Meant
 pub mod SwitchReading
 pub mod OperandReading
 pub mod OpcodeReading
+pub mod ListingReading

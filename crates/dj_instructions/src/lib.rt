@@ -9,6 +9,7 @@ mod form;
 mod instruction;
 mod jumps;
 mod kinds;
+mod listing;
 mod members;
 mod objects;
 mod operands;
@@ -21,4 +22,7 @@ mod types;
 
 pub use instruction::Instruction;
 pub use kinds::{BadKind, Calc, Element, Kind, Test};
+pub use listing::read_instructions;
+pub use pool_names::{Member, Reference, descriptor_at, member_at, reference_at, type_of_class};
 pub use references::{FieldRef, MethodRef};
+pub use types::has_dimensions;
