@@ -9,13 +9,16 @@ mod fault;
 mod method_code;
 mod opcodes;
 mod ranges;
+mod reading;
 pub mod straight;
 mod targets;
 
 pub use content::{CodeContent, RawHandler, read_content};
 pub use dj_frames::{Frame, Slots, Tag, entry_frame};
 pub use dj_instructions::{
-    BadKind, Calc, Element, FieldRef, Instruction, Kind, MethodRef, Test, type_of_class,
+    BadKind, Calc, Element, FieldRef, Instruction, Kind, MethodRef, Test,
+    read_instructions, type_of_class,
 };
 pub use fault::CodeFault;
 pub use method_code::{Code, Handler, Typed};
+pub use reading::{read_code, read_code_of};

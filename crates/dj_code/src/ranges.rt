@@ -9,12 +9,20 @@ ghost use Rattle.dj_code.specs.Targets.{IsLeast, LeadsRight, RangesRight, Starts
 
 use crate::content::RawHandler;
 use crate::method_code::Handler;
-use crate::targets::lesser;
+use crate::targets::least_wrong;
 use dj_class::Pool;
 use dj_frames::is_start;
 use dj_instructions::Instruction;
 use dj_names::{ClassName, Items, Units};
 use std::alloc::{AllocError, Global};
+
+/// Whether an entry's handler is an instruction.
+fn leads_right(instructions: &[(u32, Instruction)], handler: &RawHandler) -> bool
+    requires rising { IsRising (view_instructions instructions.now) }
+    ensures exact { IsTrue result ↔ LeadsRight (view_instructions instructions.now) handler.now }
+{
+    is_start(instructions, u32::from(handler.target))
+}
 
 /// The least start among the entries whose handler is no instruction.
 pub fn wrong_target(
@@ -26,9 +34,8 @@ pub fn wrong_target(
 {
     let mut least = None;
     for handler in handlers {
-        if !is_start(instructions, u32::from(handler.target)) {
-            least = lesser(least, u32::from(handler.start));
-        }
+        let right = leads_right(instructions, handler);
+        least = least_wrong(right, least, u32::from(handler.start));
     }
     least
 }
@@ -82,9 +89,8 @@ pub fn wrong_range(
 {
     let mut least = None;
     for handler in handlers {
-        if !ranges_right(pool, instructions, size, handler) {
-            least = lesser(least, u32::from(handler.start));
-        }
+        let right = ranges_right(pool, instructions, size, handler);
+        least = least_wrong(right, least, u32::from(handler.start));
     }
     least
 }

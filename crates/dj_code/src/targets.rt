@@ -1,6 +1,6 @@
 //! Whether jumps lead to instructions (JVMS 4.9.1).
 
-ghost use Rattle.std.specs.Prelude.{◌≡◌, ◌↔◌, All, IsTrue, MatchOption, MatchBool, map};
+ghost use Rattle.std.specs.Prelude.{◌≡◌, ◌↔◌, All, IsTrue, MatchOption, map, if◌then◌else◌};
 ghost use Rattle.dj_instructions.specs.Instructions.{view_instruction, view_instructions, IsRising};
 ghost use Rattle.dj_code.specs.Targets.{IsLeast, IsStart, JumpsRight, AllJumpRight, JumpsWrong};
 ghost use Rattle.dj_code.specs.Checks.{lesser};
@@ -8,10 +8,13 @@ ghost use Rattle.dj_code.specs.Checks.{lesser};
 use dj_frames::is_start;
 use dj_instructions::Instruction;
 
-/// The lesser of two pcs, where there is a first one.
-pub fn lesser(least: Option<u32>, pc: u32) -> Option<u32>
-    ensures lesser { result ≡ lesser least pc }
+/// The least pc so far of what isn't right, with this pc behind the others.
+pub fn least_wrong(right: bool, least: Option<u32>, pc: u32) -> Option<u32>
+    ensures least { result ≡ (if right then least else lesser least pc) }
 {
+    if right {
+        return least;
+    }
     match least {
         Some(other) => Some(other.min(pc)),
         None => Some(pc),
@@ -113,9 +116,8 @@ pub fn wrong_jump(instructions: &[(u32, Instruction)]) -> Option<u32>
 {
     let mut least = None;
     for at in instructions {
-        if !jumps_right(instructions, &at.1) {
-            least = lesser(least, at.0);
-        }
+        let right = jumps_right(instructions, &at.1);
+        least = least_wrong(right, least, at.0);
     }
     least
 }

@@ -53,7 +53,7 @@ at_two = refl
 at_four : padding 4 ≡ run 3 CutOff
 at_four = refl
 
-table_bytes : spell_raw (raw.TableSwitch (two_keys (0 ∷ 0 ∷ []))) ≡ 170 ∷ 0 ∷ 0 ∷ 0 ∷ 0 ∷ 0 ∷ 30 ∷ 0 ∷ 0 ∷ 0 ∷ 5 ∷ 0 ∷ 0 ∷ 0 ∷ 6 ∷ 0 ∷ 0 ∷ 0 ∷ 20 ∷ 0 ∷ 0 ∷ 0 ∷ 25 ∷ []
+table_bytes : spell_raw (raw.TableSwitch 170 (two_keys (0 ∷ 0 ∷ []))) ≡ 170 ∷ 0 ∷ 0 ∷ 0 ∷ 0 ∷ 0 ∷ 30 ∷ 0 ∷ 0 ∷ 0 ∷ 5 ∷ 0 ∷ 0 ∷ 0 ∷ 6 ∷ 0 ∷ 0 ∷ 0 ∷ 20 ∷ 0 ∷ 0 ∷ 0 ∷ 25 ∷ []
 unfolding two_keys form_of number
 table_bytes = refl
 
@@ -85,14 +85,14 @@ equal_keys = refl
 
 -- ---- `wide`
 
-wide_step : meaning_of [] 0 (raw.Wide (record { opcode = 132; slot = 300; by = 65535 })) ≡ Known (Some (Iinc 300 (negsuc 0)))
+wide_step : meaning_of [] 0 (raw.Wide 196 (record { opcode = 132; slot = 300; by = 65535 })) ≡ Known (Some (Iinc 300 (negsuc 0)))
 wide_step = refl
 
-wide_bytes : spell_raw (raw.Wide (record { opcode = 132; slot = 300; by = 65535 })) ≡ 196 ∷ 132 ∷ 1 ∷ 44 ∷ 255 ∷ 255 ∷ []
+wide_bytes : spell_raw (raw.Wide 196 (record { opcode = 132; slot = 300; by = 65535 })) ≡ 196 ∷ 132 ∷ 1 ∷ 44 ∷ 255 ∷ 255 ∷ []
 unfolding form_of number
 wide_bytes = refl
 
-wide_load_bytes : spell_raw (raw.Wide (record { opcode = 25; slot = 300; by = 0 })) ≡ 196 ∷ 25 ∷ 1 ∷ 44 ∷ []
+wide_load_bytes : spell_raw (raw.Wide 196 (record { opcode = 25; slot = 300; by = 0 })) ≡ 196 ∷ 25 ∷ 1 ∷ 44 ∷ []
 unfolding form_of number
 wide_load_bytes = refl
 

@@ -7,3 +7,4 @@ pub mod Listing
 -- What the functions inside the crate promise each other.
 pub mod PoolParts
 pub mod Answers
+pub mod Reads

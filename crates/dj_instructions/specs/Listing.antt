@@ -47,8 +47,12 @@ pub record IsListing (pool : List Entry) (code : List ℕ) (instructions : Instr
 abbrev pub HasBadInstruction : List Entry → List ℕ → Fault BadKind → Type 0
 HasBadInstruction pool code fault = (listing pool (length code)).Halts (length code) code fault
 
--- the answer is the listing, the fault, or that memory ran out
+-- a reader may give up with this: out of memory, or with the fault of the first bad instruction
+abbrev pub IsBad : List Entry → List ℕ → Stop BadKind → Type 0
+IsBad pool code stop.Memory = ⊤
+IsBad pool code (stop.Fault fault) = HasBadInstruction pool code fault
+
+-- the answer is the listing, or the reader gave up
 abbrev pub IsRead : List Entry → List ℕ → Result (List (ℕ × declared.Instruction)) (Stop BadKind) → Type 0
 IsRead pool code (Ok found) = IsListing pool code (view_instructions found)
-IsRead pool code (Err stop.Memory) = ⊤
-IsRead pool code (Err (stop.Fault fault)) = HasBadInstruction pool code fault
+IsRead pool code (Err why) = IsBad pool code why

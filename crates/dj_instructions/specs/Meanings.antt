@@ -142,11 +142,14 @@ jump op to =
     else (if is_in_range 198 199 op then Some (IfNull (op == 198) to)  -- `ifnull`, `ifnonnull`
     else None))))
 
--- a `tableswitch`; its lowest key isn't above its highest
+-- a `tableswitch` with these targets; its lowest key isn't above its highest
+abbrev pub table_with : ℕ → ℕ → ℕ → ℕ → List ℕ → Option Instruction
+table_with pc other low high targets =
+    if int_lt (cast_signed w32 high) (cast_signed w32 low) then None
+    else Some (TableSwitch (cast_signed w32 low) targets (target pc (cast_signed w32 other)))
+
 abbrev pub table_switch : ℕ → Table → Option Instruction
-table_switch pc t =
-    if int_lt (cast_signed w32 t.high) (cast_signed w32 t.low) then None
-    else Some (TableSwitch (cast_signed w32 t.low) (map (λ offset. target pc (cast_signed w32 offset)) t.offsets) (target pc (cast_signed w32 t.other)))
+table_switch pc t = table_with pc t.other t.low t.high (map (λ offset. target pc (cast_signed w32 offset)) t.offsets)
 
 -- each key is above the one before it
 abbrev pub do_rise : List (ℤ × ℕ) → Bool
@@ -154,11 +157,12 @@ do_rise [] = true
 do_rise (one ∷ []) = true
 do_rise (one ∷ next ∷ rest) = int_lt one.0 next.0 && do_rise (next ∷ rest)
 
--- a `lookupswitch`; its keys rise
+-- a `lookupswitch` with these keys and targets; the keys rise
+abbrev pub lookup_with : ℕ → ℕ → List (ℤ × ℕ) → Option Instruction
+lookup_with pc other cases = if do_rise cases then Some (LookupSwitch cases (target pc (cast_signed w32 other))) else None
+
 abbrev pub lookup_switch : ℕ → Lookup → Option Instruction
-lookup_switch pc l =
-    let cases : List (ℤ × ℕ) = map (λ p. (cast_signed w32 p.0, target pc (cast_signed w32 p.1))) l.pairs in
-    if do_rise cases then Some (LookupSwitch cases (target pc (cast_signed w32 l.other))) else None
+lookup_switch pc l = lookup_with pc l.other (map (λ p. (cast_signed w32 p.0, target pc (cast_signed w32 p.1))) l.pairs)
 
 -- ---- constants of the pool
 
@@ -349,12 +353,16 @@ with_count pool op x =
     if op == 185 then OfReference x (call_of op)  -- `invokeinterface`
     else dynamic (slice_get pool x)  -- `invokedynamic`
 
--- what is made wide
+-- a load or a store that is made wide
+abbrev pub widened_load : ℕ → ℕ → Option Instruction
+widened_load op slot =
+    if is_in_range 21 25 op then load (op - 21) slot  -- `iload` to `aload`
+    else (if is_in_range 54 58 op then store (op - 54) slot  -- `istore` to `astore`
+    else None)
+
+-- what is made wide (JVMS 6.5, `wide`)
 abbrev pub wide : Widened → Option Instruction
-wide w =
-    if is_in_range 21 25 w.opcode then load (w.opcode - 21) w.slot  -- `iload` to `aload`
-    else (if is_in_range 54 58 w.opcode then store (w.opcode - 54) w.slot  -- `istore` to `astore`
-    else Some (Iinc w.slot (cast_signed w16 w.by)))  -- `iinc`
+wide w = if w.opcode == 132 then Some (Iinc w.slot (cast_signed w16 w.by)) else widened_load w.opcode w.slot
 
 -- an opcode of this form, with its numbers
 abbrev pub plain : List Entry → ℕ → Form → ℕ → ℕ → ℕ → Meaning
@@ -373,6 +381,6 @@ plain pool pc form.Wide op x y = Known None
 -- what an instruction at this pc means
 abbrev pub meaning_of : List Entry → ℕ → Raw → Meaning
 meaning_of pool pc (raw.Plain op x y) = plain pool pc (form_of op) op x y
-meaning_of pool pc (raw.TableSwitch t) = Known (table_switch pc t)
-meaning_of pool pc (raw.LookupSwitch l) = Known (lookup_switch pc l)
-meaning_of pool pc (raw.Wide w) = Known (wide w)
+meaning_of pool pc (raw.TableSwitch op t) = Known (table_switch pc t)
+meaning_of pool pc (raw.LookupSwitch op l) = Known (lookup_switch pc l)
+meaning_of pool pc (raw.Wide op w) = Known (wide w)

@@ -80,53 +80,53 @@ pub record Widened : Type 0 where
   pub slot : ℕ
   pub by : ℕ
 
--- an opcode and two numbers, 0 where there are fewer, or one of the forms of its own
+-- an opcode and what stands behind it: two numbers, 0 where there are fewer, or operands of a form of their own
 pub data Raw : Type 0 where
   Plain : ℕ → ℕ → ℕ → Raw
-  TableSwitch : Table → Raw
-  LookupSwitch : Lookup → Raw
-  Wide : Widened → Raw
+  TableSwitch : ℕ → Table → Raw
+  LookupSwitch : ℕ → Lookup → Raw
+  Wide : ℕ → Widened → Raw
 
 abbrev pub opcode_of : Raw → ℕ
 opcode_of (Plain op x y) = op
-opcode_of (TableSwitch t) = 170
-opcode_of (LookupSwitch l) = 171
-opcode_of (Wide w) = 196
+opcode_of (TableSwitch op t) = op
+opcode_of (LookupSwitch op l) = op
+opcode_of (Wide op w) = op
 
 -- the first number behind an opcode, 0 in a form of its own
 abbrev pub first_of : Raw → ℕ
 first_of (Plain op x y) = x
-first_of (TableSwitch t) = 0
-first_of (LookupSwitch l) = 0
-first_of (Wide w) = 0
+first_of (TableSwitch op t) = 0
+first_of (LookupSwitch op l) = 0
+first_of (Wide op w) = 0
 
 -- the second number behind an opcode, 0 in a form of its own
 abbrev pub second_of : Raw → ℕ
 second_of (Plain op x y) = y
-second_of (TableSwitch t) = 0
-second_of (LookupSwitch l) = 0
-second_of (Wide w) = 0
+second_of (TableSwitch op t) = 0
+second_of (LookupSwitch op l) = 0
+second_of (Wide op w) = 0
 
 -- the operands of `tableswitch`, empty elsewhere
 abbrev pub table_of : Raw → Table
 table_of (Plain op x y) = record { padding = []; other = 0; low = 0; high = 0; offsets = [] }
-table_of (TableSwitch t) = t
-table_of (LookupSwitch l) = record { padding = []; other = 0; low = 0; high = 0; offsets = [] }
-table_of (Wide w) = record { padding = []; other = 0; low = 0; high = 0; offsets = [] }
+table_of (TableSwitch op t) = t
+table_of (LookupSwitch op l) = record { padding = []; other = 0; low = 0; high = 0; offsets = [] }
+table_of (Wide op w) = record { padding = []; other = 0; low = 0; high = 0; offsets = [] }
 
 -- the operands of `lookupswitch`, empty elsewhere
 abbrev pub lookup_of : Raw → Lookup
 lookup_of (Plain op x y) = record { padding = []; other = 0; pairs = [] }
-lookup_of (TableSwitch t) = record { padding = []; other = 0; pairs = [] }
-lookup_of (LookupSwitch l) = l
-lookup_of (Wide w) = record { padding = []; other = 0; pairs = [] }
+lookup_of (TableSwitch op t) = record { padding = []; other = 0; pairs = [] }
+lookup_of (LookupSwitch op l) = l
+lookup_of (Wide op w) = record { padding = []; other = 0; pairs = [] }
 
 -- what stands behind `wide`, empty elsewhere
 abbrev pub widened_of : Raw → Widened
 widened_of (Plain op x y) = record { opcode = 0; slot = 0; by = 0 }
-widened_of (TableSwitch t) = record { opcode = 0; slot = 0; by = 0 }
-widened_of (LookupSwitch l) = record { opcode = 0; slot = 0; by = 0 }
-widened_of (Wide w) = w
+widened_of (TableSwitch op t) = record { opcode = 0; slot = 0; by = 0 }
+widened_of (LookupSwitch op l) = record { opcode = 0; slot = 0; by = 0 }
+widened_of (Wide op w) = w
 
 -- ---- the layout; what is cut off is told at the instruction
 
@@ -195,9 +195,9 @@ behind pc op form.Word = one op u4
 behind pc op form.Step = two op u1 u1
 behind pc op form.Counted = two op u2 u2
 behind pc op form.Sizes = two op u2 u1
-behind pc op form.Table = headed table_of (table pc) (λ t. exactly (TableSwitch t))
-behind pc op form.Lookup = headed lookup_of (lookup pc) (λ l. exactly (LookupSwitch l))
-behind pc op form.Wide = headed widened_of widened (λ w. exactly (Wide w))
+behind pc op form.Table = headed table_of (table pc) (λ t. exactly (TableSwitch op t))
+behind pc op form.Lookup = headed lookup_of (lookup pc) (λ l. exactly (LookupSwitch op l))
+behind pc op form.Wide = headed widened_of widened (λ w. exactly (Wide op w))
 
 -- an opcode, which is judged before anything behind it is looked at
 abbrev pub opcode : Layout BadKind ℕ
