@@ -1,16 +1,16 @@
 -- What is found of one method more.
-use Rattle.std.proofs.Common.{◌≡◌, ℕ, ◌<◌, List, [], ◌∷◌, ◌++◌, length, get_or, map, refl, sym, ap, ◌∙◌, subst, append_assoc, append-nil, All, ◌⊎◌, false}
+use Rattle.std.proofs.Common.{◌≡◌, ℕ, ◌<◌, List, [], ◌∷◌, ◌++◌, length, get_or, map, None, refl, sym, ap, ◌∙◌, subst, append_assoc, append-nil, All, ◌⊎◌, false}
 use Rattle.std.specs.List.{AllByRecursion}
 use Rattle.std.proofs.lemmas.List.{get_or-map, length-map}
 use Rattle.dj_class.specs.Described.{ClassOf, MethodOf}
 use Rattle.dj_syntax.specs.Trees.{Exp, Body, MethodText}
-use Rattle.dj_syntax.specs.WellFormed.{IsWellFormedExp, IsWellFormedMethod}
-use Rattle.dj_straight.specs.StraightMethod.{IsStraightMethod, IsNotYet, IsBodyOf}
+use Rattle.dj_syntax.specs.WellFormed.{IsWellFormedMethod}
+use Rattle.dj_straight.specs.StraightMethod.{IsStraightMethod, IsBodyOf}
 use Rattle.dj_straight.proofs.StraightShows.{straight_methods_show}
 use Rattle.dj_unit.specs.ClassText.{method_text, printed_methods}
-use Rattle.dj_report.specs.Report.{not_yet_tail, shown_method}
-use Rattle.dj_cli.specs.Output.{Verdict, Prints, NotYet, PrintsMethod, IsVerdict, AreVerdicts, bodies_of, method_line, method_lines}
-use Rattle.dj_cli.specs.Methods.{AreJudged, IsTextOf}
+use Rattle.dj_report.specs.Report.{shown_method}
+use Rattle.dj_cli.specs.Output.{Verdict, Prints, Bad, NotYet, PrintsMethod, IsVerdict, AreVerdicts, body_of, bodies_of, method_line, method_lines}
+use Rattle.dj_cli.specs.Methods.{AreJudged, IsLineOf, IsPrintOf}
 use Rattle.dj_cli.proofs.ClassTextLemmas.{method_well_formed}
 
 AllByRecursion-push : {A : Type 0} (P : A → Type 0) (front : List A) (last : A) → AllByRecursion P front → P last → AllByRecursion P (front ++ last ∷ [])
@@ -37,6 +37,8 @@ module _ (class : ClassOf) where
   printed-more before [] [] method verdict each = refl
   printed-more before [] (other ∷ verdicts) method verdict each = absurd each
   printed-more before (other ∷ methods) [] method verdict each = absurd each
+  printed-more before (first ∷ methods) (Bad kind pc ∷ verdicts) method verdict each =
+      printed-more (before ++ first ∷ []) methods verdicts method verdict each.1
   printed-more before (first ∷ methods) (NotYet pc ∷ verdicts) method verdict each =
       printed-more (before ++ first ∷ []) methods verdicts method verdict each.1
   printed-more before (first ∷ methods) (Prints body ∷ verdicts) method verdict each =
@@ -58,7 +60,7 @@ module _ (class : ClassOf) where
     exp = exp;
     straight = straight;
     of_method = of_method;
-    shows = λ world members code has. straight_methods_show class before method exp body world members code straight of_method has;
+    shows = λ world members. straight_methods_show class before method exp body world members straight of_method;
   }
 
   -- ---- methods judged
@@ -68,12 +70,13 @@ module _ (class : ClassOf) where
   judged_none = record { verdicts = []; judged = tt; texts_are = refl; lines_are = refl; well_formed = tt }
 
   -- and a straight one
-  pub judged_text : (methods : List MethodOf) (method : MethodOf) (exp : Exp) (texts : List MethodText) (text : MethodText) (lines : List ℕ) → (method.flags ≡ 0x8) ⊎ (method.flags ≡ 0x9) → AreJudged class methods texts lines
-      → IsStraightMethod class methods method exp → IsWellFormedExp exp → IsTextOf class method exp text → AreJudged class (methods ++ method ∷ []) (texts ++ text ∷ []) lines
-  judged_text methods method exp texts text lines flags before straight fits of_method =
+  pub judged_text : (methods : List MethodOf) (method : MethodOf) (texts : List MethodText) (text : MethodText) (lines : List ℕ) → (method.flags ≡ 0x8) ⊎ (method.flags ≡ 0x9) → AreJudged class methods texts lines
+      → IsPrintOf class methods method text → AreJudged class (methods ++ method ∷ []) (texts ++ text ∷ []) lines
+  judged_text methods method texts text lines flags before print =
+      let of_method = print.text_is in
       let verdict : Verdict = Prints of_method.body in
-      let prints : IsVerdict class methods method verdict = prints_straight methods method exp of_method.body straight of_method.of_method in
-      let well = method_well_formed class methods method exp of_method.body flags straight fits of_method.of_method in
+      let prints : IsVerdict class methods method verdict = prints_straight methods method print.exp of_method.body print.straight of_method.of_method in
+      let well = method_well_formed class methods method print.exp of_method.body flags print.straight print.fits of_method.of_method in
       record {
         verdicts = before.verdicts ++ verdict ∷ [];
         judged = verdicts-more [] methods before.verdicts method verdict before.judged prints;
@@ -82,16 +85,22 @@ module _ (class : ClassOf) where
         well_formed = rw of_method.text_is (AllByRecursion-push (IsWellFormedMethod false class.this_class) texts (method_text method of_method.body) before.well_formed well);
       }
 
-  -- and one that isn't straight
-  pub judged_line : (methods : List MethodOf) (method : MethodOf) (pc : ℕ) (texts : List MethodText) (lines : List ℕ) → AreJudged class methods texts lines → IsNotYet class methods method pc
-      → AreJudged class (methods ++ method ∷ []) texts (lines ++ (shown_method class.this_class method.name method.descriptor ++ not_yet_tail pc))
-  judged_line methods method pc texts lines before not_yet =
-      let verdict : Verdict = NotYet pc in
+  -- a verdict without a body prints nothing
+  none_printed : (method : MethodOf) (verdict : Verdict) → body_of verdict ≡ None → printed_methods (method ∷ []) (bodies_of (verdict ∷ [])) ≡ []
+  none_printed method (Prints body) none = absurd (cc)
+  none_printed method (Bad kind pc) none = refl
+  none_printed method (NotYet pc) none = refl
+
+  -- and one that isn't printed
+  pub judged_line : (methods : List MethodOf) (method : MethodOf) (tail : List ℕ) (texts : List MethodText) (lines : List ℕ) → AreJudged class methods texts lines → IsLineOf class methods method tail
+      → AreJudged class (methods ++ method ∷ []) texts (lines ++ (shown_method class.this_class method.name method.descriptor ++ tail))
+  judged_line methods method tail texts lines before line =
+      let verdict = line.verdict in
       record {
         verdicts = before.verdicts ++ verdict ∷ [];
-        judged = verdicts-more [] methods before.verdicts method verdict before.judged not_yet;
-        texts_are = before.texts_are ∙ sym (append-nil (printed_methods methods (bodies_of before.verdicts))) ∙ sym (printed-more [] methods before.verdicts method verdict before.judged);
-        lines_are = ap (λ these. these ++ method_line class method verdict) before.lines_are ∙ sym (lines-more [] methods before.verdicts method verdict before.judged);
+        judged = verdicts-more [] methods before.verdicts method verdict before.judged line.is_verdict;
+        texts_are = before.texts_are ∙ sym (append-nil (printed_methods methods (bodies_of before.verdicts))) ∙ ap (λ these. printed_methods methods (bodies_of before.verdicts) ++ these) (sym (none_printed method verdict line.no_body)) ∙ sym (printed-more [] methods before.verdicts method verdict before.judged);
+        lines_are = ap (λ these. these ++ (shown_method class.this_class method.name method.descriptor ++ tail)) before.lines_are ∙ ap (λ these. method_lines class methods before.verdicts ++ these) (sym line.line_is) ∙ sym (lines-more [] methods before.verdicts method verdict before.judged);
         well_formed = before.well_formed;
       }
 

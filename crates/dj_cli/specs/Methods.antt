@@ -1,21 +1,51 @@
 -- What is found of the methods of a class.
-use Rattle.std.specs.Prelude.{◌≡◌, ℕ, false, List, [], ◌++◌, string_bytes}
+use Rattle.std.specs.Prelude.{◌≡◌, ℕ, false, List, [], ◌++◌, None, string_bytes}
 use Rattle.std.specs.List.{AllByRecursion, flat_map}
 use Rattle.dj_names.specs.Types.{view_descriptor}
 use Rattle.dj_class.specs.Described.{ClassOf, MethodOf}
-use Rattle.dj_syntax.specs.Trees.{Exp, Body, MethodText}
-use Rattle.dj_syntax.specs.WellFormed.{IsWellFormedMethod}
-use Rattle.dj_straight.specs.StraightMethod.{IsBodyOf}
+use Rattle.dj_syntax.specs.Trees as trees
+use Rattle.dj_syntax.specs.Trees.{Exp, Body, MethodText, view_exp}
+use Rattle.dj_syntax.specs.WellFormed.{IsWellFormedExp, IsWellFormedMethod}
+use Rattle.dj_straight.specs.StraightMethod.{IsStraightMethod, IsNotYet, IsBodyOf}
+use Rattle.dj_cli.specs.declared.methods.Found.{Found}
+use Rattle.dj_cli.specs.declared.methods.Found.TheVariants as found
+use Rattle.dj_cli.specs.declared.methods.Told.{Told}
+use Rattle.dj_cli.specs.declared.methods.Told.TheVariants as told
 use Rattle.dj_cli.specs.declared.methods.MethodLine.{MethodLine}
 use Rattle.dj_unit.specs.ClassText.{method_text, printed_methods}
 use Rattle.dj_report.specs.Report.{shown_method}
-use Rattle.dj_cli.specs.Output.{Verdict, AreVerdicts, bodies_of, method_lines}
+use Rattle.dj_cli.specs.Output.{Verdict, IsBadMethod, IsVerdict, AreVerdicts, body_of, bodies_of, method_line, method_lines}
 
 -- the text of a method that returns an expression
 pub record IsTextOf (class : ClassOf) (method : MethodOf) (exp : Exp) (text : MethodText) : Type 0 where
   pub body : Body
   pub of_method : IsBodyOf class method exp body
   pub text_is : text ≡ method_text method body
+
+-- what is found of a method of a class, those before it given; an expression is well formed
+abbrev pub IsFound : ClassOf → List MethodOf → MethodOf → Found → Type 0
+IsFound class before method (found.Straight exp) = IsStraightMethod class before method (view_exp exp) × IsWellFormedExp (view_exp exp)
+IsFound class before method (found.Bad pc kind) = IsBadMethod class method kind pc
+IsFound class before method (found.NotYet pc) = IsNotYet class before method pc
+
+-- a verdict on a method that isn't printed, and the end of its line
+pub record IsLineOf (class : ClassOf) (before : List MethodOf) (method : MethodOf) (tail : List ℕ) : Type 0 where
+  pub verdict : Verdict
+  pub is_verdict : IsVerdict class before method verdict
+  pub no_body : body_of verdict ≡ None
+  pub line_is : method_line class method verdict ≡ shown_method class.this_class method.name method.descriptor ++ tail
+
+-- the text of a straight method, well formed
+pub record IsPrintOf (class : ClassOf) (before : List MethodOf) (method : MethodOf) (text : MethodText) : Type 0 where
+  pub exp : Exp
+  pub straight : IsStraightMethod class before method exp
+  pub fits : IsWellFormedExp exp
+  pub text_is : IsTextOf class method exp text
+
+-- what is told of a method
+abbrev pub IsToldOf : ClassOf → List MethodOf → MethodOf → Told → Type 0
+IsToldOf class before method (told.Text text) = IsPrintOf class before method (trees.view_method text)
+IsToldOf class before method (told.Line tail) = IsLineOf class before method (string_bytes tail)
 
 -- the bytes of a line on a method of a class of this name
 abbrev pub line_bytes : List ℕ → MethodLine → List ℕ

@@ -1,5 +1,5 @@
 -- What a run tells of the files of an order, in pieces, and how far it got: the headline.
-use Rattle.std.specs.Prelude.{◌≡◌, ◌≢◌, ◌⊎◌, ℕ, ◌+◌, Bool, List, [], ◌∷◌, ◌++◌, length, map, take, slice_get, Option, Some, None, IfSome, IsSomeAnd, MatchBool, ⊤}
+use Rattle.std.specs.Prelude.{◌≡◌, ◌≢◌, ◌⊎◌, ℕ, ◌+◌, Bool, List, [], ◌∷◌, ◌++◌, length, map, take, slice_get, Option, Some, None, IfSome, IsSome, IsSomeAnd, MatchBool, ⊤}
 use Rattle.std.specs.List.{flat_map}
 use Rattle.std.specs.Io.KnownBytes.{append_known}
 use Rattle.dj_names.specs.declared.header.Header.{Header}
@@ -8,9 +8,10 @@ use Rattle.dj_class.specs.Described.{ClassOf, MethodOf}
 use Rattle.dj_syntax.specs.Trees.{Exp, Body, CompilationUnit}
 use Rattle.dj_syntax.specs.UnitText.{unit_text}
 use Rattle.dj_syntax.specs.WellFormed.{IsWellFormed}
-use Rattle.dj_code.specs.declared.code.Code.{Code}
+use Rattle.dj_instructions.specs.declared.kinds.BadKind.{BadKind}
+use Rattle.dj_code.specs.ReadCode.{FirstCodeFault}
 use Rattle.dj_bytecode.specs.SameShows.{SameShows}
-use Rattle.dj_straight.specs.StraightMethod.{IsStraightMethod, IsNotYet, IsBodyOf, HasCode}
+use Rattle.dj_straight.specs.StraightMethod.{IsStraightMethod, IsNotYet, IsBodyOf}
 use Rattle.dj_unit.specs.ClassText.{IsClassText, file_line}
 use Rattle.dj_unit.specs.ClassPart.{IsClassPart}
 use Rattle.dj_report.specs.Report.{line_text}
@@ -27,6 +28,7 @@ pub record Piece : Type 0 where
 -- what is found of a method, in the order in which a method is refused
 pub data Verdict : Type 0 where
   Prints : Body → Verdict
+  Bad : BadKind → ℕ → Verdict
   NotYet : ℕ → Verdict
 
 -- a straight method, and its body, which shows the same as its code at every bound, whatever classes may run, for all arguments that fit and all answers
@@ -34,11 +36,17 @@ pub record PrintsMethod (class : ClassOf) (before : List MethodOf) (method : Met
   pub exp : Exp
   pub straight : IsStraightMethod class before method exp
   pub of_method : IsBodyOf class method exp body
-  pub shows : (world : List Header) (members : List ClassMembers) (code : Code) → HasCode class method straight.content code → SameShows world members code body
+  pub shows : (world : List Header) (members : List ClassMembers) → SameShows world members straight.code body
 
--- the verdict on a method of a class, those before it in the file given: it is printed, or it isn't straight at this offset of its code
+-- a method has code that is none, and this is its first fault
+pub record IsBadMethod (class : ClassOf) (method : MethodOf) (kind : BadKind) (pc : ℕ) : Type 0 where
+  pub some : IsSome method.code
+  pub first : FirstCodeFault class method kind pc
+
+-- the verdict on a method of a class, those before it in the file given: it is printed, or its code is bad, or it isn't straight at this offset of its code
 abbrev pub IsVerdict : ClassOf → List MethodOf → MethodOf → Verdict → Type 0
 IsVerdict class before method (Prints body) = PrintsMethod class before method body
+IsVerdict class before method (Bad kind pc) = IsBadMethod class method kind pc
 IsVerdict class before method (NotYet pc) = IsNotYet class before method pc
 
 -- one verdict for each method, in file order
@@ -52,6 +60,7 @@ AreVerdicts class before (method ∷ methods) (verdict ∷ verdicts) =
 -- the body that a method is printed with, where it is
 abbrev pub body_of : Verdict → Option Body
 body_of (Prints body) = Some body
+body_of (Bad kind pc) = None
 body_of (NotYet pc) = None
 
 -- the same of each method
@@ -61,6 +70,7 @@ bodies_of verdicts = map body_of verdicts
 -- the line on a method, none where it is printed
 abbrev pub method_line : ClassOf → MethodOf → Verdict → List ℕ
 method_line class method (Prints body) = []
+method_line class method (Bad kind pc) = line_text (report.BadMethod class.this_class method.name method.descriptor kind pc)
 method_line class method (NotYet pc) = line_text (report.NotYetMethod class.this_class method.name method.descriptor pc)
 
 -- the lines on methods, in file order

@@ -1,16 +1,19 @@
 //! What is found of the methods of a class.
 
-ghost use Rattle.std.specs.Prelude.{◌≡◌, ◌⊎◌, All, IfOk, map};
+ghost use Rattle.std.specs.Prelude.{◌≡◌, ◌⊎◌, ◌++◌, ◌∷◌, [], List, All, IfOk, IsSome, OnOk, map};
 ghost use Rattle.dj_names.specs.Types.{view_descriptor};
+ghost use Rattle.dj_class.specs.Described.{MethodOf};
 ghost use Rattle.dj_class.specs.Views.{view_class, view_method};
 ghost use Rattle.dj_syntax.specs.Trees as trees;
 ghost use Rattle.dj_syntax.specs.Trees.{view_body, view_exp};
 ghost use Rattle.dj_unit.specs.ClassText.{method_text};
-ghost use Rattle.dj_cli.specs.Methods.{AreJudged, IsTextOf, lines_bytes};
+ghost use Rattle.dj_straight.specs.DeclaredMethods.{Holds};
+ghost use Rattle.dj_cli.specs.Methods.{AreJudged, IsFound, IsTextOf, IsToldOf, lines_bytes};
 
 use dj_class::{ClassFile, Method};
+use dj_code::{BadKind, CodeFault, read_code_of};
 use dj_names::{Items, MethodHead, copy_names};
-use dj_report::not_yet_tail;
+use dj_report::{bad_tail, not_yet_tail};
 use dj_straight::{Declared, Judged, judge, returning_body};
 use dj_syntax::{Body, Exp, MethodText, method_bits};
 use std::alloc::{AllocError, Global};
@@ -30,6 +33,24 @@ pub struct Judgement<'a> {
     pub texts: Items<MethodText>,
     /// The lines on the others, in file order.
     pub lines: Vec<MethodLine<'a>>,
+}
+
+/// What is found of a method.
+#[derive(Drop)]
+enum Found {
+    /// It returns this expression.
+    Straight(Exp),
+    /// Its code has this fault first, at this offset.
+    Bad { pc: u32, kind: BadKind },
+    /// It isn't straight at this offset of its code.
+    NotYet(u32),
+}
+
+/// What is told of a method: its text, or the end of its line.
+#[derive(Drop)]
+enum Told {
+    Text(MethodText),
+    Line(String),
 }
 
 /// A copy of a method's head.
@@ -74,6 +95,78 @@ fn returning_text(
     method_text(alloc, method, body)
 }
 
+/// What is found of a method with code, where the table holds those before it; it is put into the table.
+fn find_coded<'a>(
+    alloc: Global,
+    class: &ClassFile,
+    declared: &mut Declared<'a>,
+    method: &'a Method,
+) -> Result<Found, AllocError>
+    requires coded { IsSome method.now.code }
+    ensures found { IfOk result (λ found. (before : List MethodOf) → Holds declared.old before → IsFound (view_class class.now) before (view_method method.now) found) }
+    ensures declared { OnOk result ((before : List MethodOf) → Holds declared.old before → Holds declared.new (before ++ view_method method.now ∷ [])) }
+{
+    match read_code_of(alloc, class, method) {
+        Ok(code) => match judge(alloc, class, declared, method, &code)? {
+            Judged::Straight(exp) => Ok(Found::Straight(exp)),
+            Judged::NotYet(pc) => Ok(Found::NotYet(pc)),
+        },
+        Err(CodeFault::BadCode { pc, kind }) => {
+            declared.admit(method)?;
+            Ok(Found::Bad { pc, kind })
+        }
+        Err(CodeFault::Memory(error)) => Err(error),
+    }
+}
+
+/// What is found of a method, where the table holds those before it; it is put into the table.
+fn find<'a>(
+    alloc: Global,
+    class: &ClassFile,
+    declared: &mut Declared<'a>,
+    method: &'a Method,
+) -> Result<Found, AllocError>
+    ensures found { IfOk result (λ found. (before : List MethodOf) → Holds declared.old before → IsFound (view_class class.now) before (view_method method.now) found) }
+    ensures declared { OnOk result ((before : List MethodOf) → Holds declared.old before → Holds declared.new (before ++ view_method method.now ∷ [])) }
+{
+    if method.code.is_none() {
+        declared.admit(method)?;
+        return Ok(Found::NotYet(0));
+    }
+    find_coded(alloc, class, declared, method)
+}
+
+/// What is told of a method of which this is found.
+fn told(
+    alloc: Global,
+    class: &ClassFile,
+    method: &Method,
+    found: Found,
+) -> Result<Told, AllocError>
+    ensures told { (before : List MethodOf) → IsFound (view_class class.now) before (view_method method.now) found → IfOk result (IsToldOf (view_class class.now) before (view_method method.now)) }
+{
+    match found {
+        Found::Straight(exp) => Ok(Told::Text(returning_text(alloc, class, method, exp)?)),
+        Found::Bad { pc, kind } => Ok(Told::Line(bad_tail(alloc, kind, pc)?)),
+        Found::NotYet(pc) => Ok(Told::Line(not_yet_tail(alloc, pc)?)),
+    }
+}
+
+/// What is told of a method, where the table holds those before it; it is put into the table.
+fn judge_method<'a>(
+    alloc: Global,
+    class: &ClassFile,
+    declared: &mut Declared<'a>,
+    method: &'a Method,
+) -> Result<Told, AllocError>
+    ensures told { IfOk result (λ told. (before : List MethodOf) → Holds declared.old before → IsToldOf (view_class class.now) before (view_method method.now) told) }
+    ensures declared { OnOk result ((before : List MethodOf) → Holds declared.old before → Holds declared.new (before ++ view_method method.now ∷ [])) }
+{
+    let found = find(alloc, class, declared, method)?;
+    let told = told(alloc, class, method, found)?;
+    Ok(told)
+}
+
 /// What is found of the methods of a class.
 pub fn judge_methods(alloc: Global, class: &ClassFile) -> Result<Judgement<'_>, AllocError>
     requires flags { All (λ method. (method.flags ≡ 0x8) ⊎ (method.flags ≡ 0x9)) (view_class class.now).methods }
@@ -83,12 +176,9 @@ pub fn judge_methods(alloc: Global, class: &ClassFile) -> Result<Judgement<'_>, 
     let mut lines = Vec::new(alloc);
     let mut declared = Declared::new(alloc);
     for method in class.methods.as_slice() {
-        match judge(alloc, class, &mut declared, method)? {
-            Judged::Straight(exp) => texts.push(returning_text(alloc, class, method, exp)?)?,
-            Judged::NotYet(pc) => {
-                let tail = not_yet_tail(alloc, pc)?;
-                lines.push(MethodLine { method, tail })?;
-            }
+        match judge_method(alloc, class, &mut declared, method)? {
+            Told::Text(text) => texts.push(text)?,
+            Told::Line(tail) => lines.push(MethodLine { method, tail })?,
         }
     }
     Ok(Judgement { texts, lines })

@@ -9,15 +9,18 @@ use Rattle.dj_names.specs.Descriptors.{spell_descriptor}
 use Rattle.dj_names.specs.Shown.{show_units}
 use Rattle.dj_pool.specs.declared.fault.BrokenKind.{BrokenKind}
 use Rattle.dj_pool.specs.declared.fault.BrokenKind.TheVariants as broken
+use Rattle.dj_instructions.specs.declared.kinds.BadKind.{BadKind}
+use Rattle.dj_instructions.specs.declared.kinds.BadKind.TheVariants as bad
 use Rattle.dj_report.specs.declared.status.UsageKind.{UsageKind}
 use Rattle.dj_report.specs.declared.status.UsageKind.TheVariants as kind
 
 -- a line of the report: on a class by its name, on a method by its class's name, its own name and its
--- descriptor, with an offset in its code, on a file that is broken by its path, with what is wrong and an
--- offset, on the words, and on a file by its place
+-- descriptor, with an offset in its code and, where its code is bad, with what is wrong there, on a file that
+-- is broken by its path, with what is wrong and an offset, on the words, and on a file by its place
 pub data Line : Type 0 where
   NotYetClass : List ℕ → Line
   NotYetMethod : List ℕ → List ℕ → Descriptor → ℕ → Line
+  BadMethod : List ℕ → List ℕ → Descriptor → BadKind → ℕ → Line
   Broken : List ℕ → BrokenKind → ℕ → Line
   Usage : UsageKind → Line
   Read : ℕ → Line
@@ -47,6 +50,14 @@ broken_text broken.Trailing = codes "Trailing"
 broken_text broken.Attribute = codes "Attribute"
 broken_text broken.Flags = codes "Flags"
 
+-- the word for what is wrong with a method's code
+abbrev pub bad_text : BadKind → List ℕ
+bad_text bad.Opcode = codes "Opcode"
+bad_text bad.CutOff = codes "CutOff"
+bad_text bad.Target = codes "Target"
+bad_text bad.Range = codes "Range"
+bad_text bad.Frame = codes "Frame"
+
 -- how a line names a method of a class
 abbrev pub shown_method : List ℕ → List ℕ → Descriptor → List ℕ
 shown_method class name descriptor = show_units class ++ codes "." ++ show_units name ++ show_units (spell_descriptor descriptor)
@@ -55,10 +66,15 @@ shown_method class name descriptor = show_units class ++ codes "." ++ show_units
 abbrev pub not_yet_tail : ℕ → List ℕ
 not_yet_tail pc = codes " notyet " ++ decimal pc ++ 10 ∷ []
 
+-- the end of the line on a method whose code is bad at this offset
+abbrev pub bad_tail : BadKind → ℕ → List ℕ
+bad_tail kind pc = codes " bad " ++ bad_text kind ++ codes " " ++ decimal pc ++ 10 ∷ []
+
 -- a line with its end
 abbrev pub line_text : Line → List ℕ
 line_text (NotYetClass class) = show_units class ++ codes " notyet" ++ 10 ∷ []
 line_text (NotYetMethod class name descriptor pc) = shown_method class name descriptor ++ not_yet_tail pc
+line_text (BadMethod class name descriptor kind pc) = shown_method class name descriptor ++ bad_tail kind pc
 line_text (Broken path kind offset) =
     show_units (path_units path) ++ codes " broken " ++ broken_text kind ++ codes " " ++ decimal offset ++ 10 ∷ []
 line_text (Usage kind) = codes "usage " ++ kind_text kind ++ 10 ∷ []

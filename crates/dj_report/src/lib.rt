@@ -1,5 +1,5 @@
 //! What the words of a run ask for, how a run ends, and the lines of its report.
-//! It stands on `dj_outer` for sinks, on `dj_names` for names and types, and on `dj_pool` for what may be wrong with a class file.
+//! It stands on `dj_outer` for sinks, on `dj_names` for names and types, on `dj_pool` for what may be wrong with a class file, and on `dj_instructions` for what may be wrong with code.
 //! The layer above uses `read_words` (`order`), the functions that make a line (`line`) and those that put one piece by piece (`puts`).
 #![tactic(auto)]
 
@@ -10,7 +10,8 @@ mod words;
 
 pub use putting::put_piece;
 pub use report::{
-    broken_line, much_line, not_yet_tail, put_class_line, put_method_line, read_line, usage_line,
+    bad_tail, broken_line, much_line, not_yet_tail, put_class_line, put_method_line, read_line,
+    usage_line,
 };
 pub use status::{Status, UsageKind};
 pub use words::{Order, WordsFault, read_words};

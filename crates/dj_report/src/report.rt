@@ -3,10 +3,11 @@
 ghost use Rattle.std.specs.Prelude.{◌≡◌, ◌++◌, IfOk, string_bytes};
 ghost use Rattle.dj_names.specs.Types.{view_descriptor};
 ghost use Rattle.dj_outer.specs.Sink.{Puts};
-ghost use Rattle.dj_report.specs.Report.{Line, broken_text, kind_text, line_text, not_yet_tail, path_units, shown_method};
+ghost use Rattle.dj_report.specs.Report.{Line, bad_tail, bad_text, broken_text, kind_text, line_text, not_yet_tail, path_units, shown_method};
 
 use crate::putting::{put_descriptor, put_piece, put_units};
 use crate::status::UsageKind;
+use dj_instructions::BadKind;
 use dj_names::{ClassName, Descriptor, Units};
 use dj_outer::{Failed, Sink};
 use dj_pool::BrokenKind;
@@ -69,6 +70,27 @@ pub fn not_yet_tail(alloc: Global, pc: u32) -> Result<String, AllocError>
     ensures tail { IfOk result (λ tail. string_bytes tail ≡ not_yet_tail pc) }
 {
     format!(in alloc; " notyet {pc}\n")
+}
+
+/// The word for what is wrong with a method's code.
+fn bad_text(kind: BadKind) -> &'static str
+    ensures text { result.now ≡ bad_text kind }
+{
+    match kind {
+        BadKind::Opcode => "Opcode",
+        BadKind::CutOff => "CutOff",
+        BadKind::Target => "Target",
+        BadKind::Range => "Range",
+        BadKind::Frame => "Frame",
+    }
+}
+
+/// The end of the line on a method whose code is bad at this offset.
+pub fn bad_tail(alloc: Global, kind: BadKind, pc: u32) -> Result<String, AllocError>
+    ensures tail { IfOk result (λ tail. string_bytes tail ≡ bad_tail kind pc) }
+{
+    let kind = bad_text(kind);
+    format!(in alloc; " bad {kind} {pc}\n")
 }
 
 /// Puts the line on a method of a class, by its name and its descriptor; the line ends so.

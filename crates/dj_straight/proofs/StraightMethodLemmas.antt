@@ -7,16 +7,18 @@ use Rattle.dj_layout.specs.Whole.{IsWhole}
 use Rattle.dj_layout.proofs.Laws.{whole_unique}
 use Rattle.dj_names.specs.declared.types.JType as code_types
 use Rattle.dj_names.specs.Types.{JType, Int, Descriptor, Field, Method, parameters_of, view_type, view_types}
-use Rattle.dj_code.specs.declared.content.CodeContent.{CodeContent}
 use Rattle.dj_class.specs.Described.{ClassOf, MethodOf}
+use Rattle.dj_code.specs.declared.content.CodeContent.{CodeContent}
 use Rattle.dj_code.specs.CodeContent as layouts
+use Rattle.dj_code.specs.MethodCode.{Code}
+use Rattle.dj_code.specs.ReadCode.{HasContent, SpellsCode}
 use Rattle.dj_code.proofs.ContentIsExact.{exact-content}
 use Rattle.dj_straight.specs.declared.straight_method.Judged.{Judged}
 use Rattle.dj_straight.specs.declared.straight_method.Judged.TheVariants.{Straight, NotYet}
 use Rattle.dj_straight.specs.Ints.{AnswersInt}
-use Rattle.dj_straight.specs.StraightMethod.{IsDeclared, IsPlainContent, IsCandidate, IsNotYet, no_candidate, breaks}
+use Rattle.dj_straight.specs.StraightMethod.{IsDeclared, IsPlainCode, IsCandidate, IsNotYet, no_candidate, breaks}
 use Rattle.dj_straight.specs.DeclaredMethods.{IsAdmitted}
-use Rattle.dj_straight.specs.Judged.{HasPlainHead, IsNotYetContent, IsJudgedContent, IsJudged}
+use Rattle.dj_straight.specs.Judged.{HasPlainHead, IsSpelledBy, IsJudgedCode, IsJudged}
 use Rattle.dj_straight.proofs.DeclaredLemmas.{same_count}
 
 -- ---- types that are all int
@@ -40,32 +42,30 @@ ints_to_int (Method parameters result) ints taken answers = rw (taken, answers) 
 
 -- ---- what is no candidate
 
-module _ (class : ClassOf) (before : List MethodOf) (method : MethodOf) where
+module _ (class : ClassOf) (before : List MethodOf) (method : MethodOf) (code : Code) (spelled : SpellsCode class method code) where
   pub not_first : IsAdmitted before method None → IsNotYet class before method 0
-  not_first admitted = no_candidate (λ parameters content candidate.
+  not_first admitted = no_candidate spelled (λ parameters candidate.
       let ints : parameters_of method.descriptor ≡ replicate parameters Int = ap parameters_of candidate.descriptor in
       candidate.first (rw ints (admitted parameters ints)))
 
   pub not_plain_head : ¬ HasPlainHead class method → IsNotYet class before method 0
-  not_plain_head other = no_candidate (λ parameters content candidate.
+  not_plain_head other = no_candidate spelled (λ parameters candidate.
       other (record { name = candidate.name; static = candidate.static; public = candidate.public; thrown = candidate.thrown; answers = subst AnswersInt (sym candidate.descriptor) refl }))
 
-  pub no_code : method.code ≡ None → IsNotYet class before method 0
-  no_code none = no_candidate (λ parameters content candidate. cc (candidate.code, none))
+-- ---- what is found of code
 
-  pub not_laid_out : (bytes : List ℕ) → method.code ≡ Some bytes → ((content : CodeContent) → ¬ IsWhole layouts.content bytes content) → IsNotYet class before method 0
-  not_laid_out bytes code other = no_candidate (λ parameters content candidate.
-      let same : candidate.bytes ≡ bytes = cc (candidate.code, code) in
-      other content (subst (λ these. IsWhole layouts.content these content) same candidate.laid_out))
+-- a method has one content of its Code
+one_content : (method : MethodOf) (first second : CodeContent) → HasContent method first → HasContent method second → first ≡ second
+one_content method first second one two =
+    let same : two.bytes ≡ one.bytes = cc (one.body, two.body) in
+    whole_unique layouts.content exact-content one.bytes first second one.laid_out (subst (λ these. IsWhole layouts.content these second) same two.laid_out)
 
--- ---- what is found of content
-
-module _ (class : ClassOf) (method : MethodOf) (parameters : ℕ) (bytes : List ℕ) (content : CodeContent) (head : HasPlainHead class method) (ints : parameters_of method.descriptor ≡ replicate parameters Int) (code : method.code ≡ Some bytes) (laid_out : IsWhole layouts.content bytes content) where
+module _ (class : ClassOf) (method : MethodOf) (parameters : ℕ) (code : Code) (spelled : SpellsCode class method code) (head : HasPlainHead class method) (ints : parameters_of method.descriptor ≡ replicate parameters Int) where
   -- no method among these takes as many ints under the same name
   abbrev IsFirst : List MethodOf → Type 0
   IsFirst before = ¬ IsDeclared before method.name (replicate parameters Int)
 
-  candidate_of : (before : List MethodOf) → IsFirst before → IsPlainContent class.pool parameters content → IsCandidate class before method parameters content
+  candidate_of : (before : List MethodOf) → IsFirst before → IsPlainCode parameters code → IsCandidate class before method parameters code
   candidate_of before first plain = record {
     name = head.name;
     static = head.static;
@@ -73,37 +73,35 @@ module _ (class : ClassOf) (method : MethodOf) (parameters : ℕ) (bytes : List 
     thrown = head.thrown;
     first = rw ints first;
     descriptor = ints_to_int method.descriptor (replicate parameters Int) ints head.answers;
-    bytes = bytes;
-    code = code;
-    laid_out = laid_out;
     plain = plain;
   }
 
-  -- a candidate has the content that its code has
-  plain_of : (before : List MethodOf) (count : ℕ) (other : CodeContent) → IsCandidate class before method count other → IsPlainContent class.pool parameters content
-  plain_of before count other candidate =
+  -- a candidate takes as many ints
+  plain_of : (before : List MethodOf) (count : ℕ) → IsCandidate class before method count code → IsPlainCode parameters code
+  plain_of before count candidate =
       let number : count ≡ parameters = same_count count parameters (ap parameters_of (sym candidate.descriptor) ∙ ints) in
-      let same_bytes : candidate.bytes ≡ bytes = cc (candidate.code, code) in
-      let laid : IsWhole layouts.content bytes other = subst (λ these. IsWhole layouts.content these other) same_bytes candidate.laid_out in
-      let same : other ≡ content = whole_unique layouts.content exact-content bytes other content laid laid_out in
-      subst (IsPlainContent class.pool parameters) same (subst (λ n. IsPlainContent class.pool n other) number candidate.plain)
+      subst (λ n. IsPlainCode n code) number candidate.plain
 
-  not_yet : (before : List MethodOf) (pc : ℕ) → IsFirst before → IsNotYetContent class.pool parameters content pc → IsNotYet class before method pc
-  not_yet before pc first (inl not_plain) =
-      subst (IsNotYet class before method) (sym not_plain.1) (no_candidate (λ count other candidate. not_plain.0 (plain_of before count other candidate)))
-  not_yet before pc first (inr plain) = breaks (candidate_of before first plain.0) plain.1
-
-  found : (judged : Judged) → IsJudgedContent class.pool parameters content judged → (before : List MethodOf) → IsFirst before → IsJudged class before method judged
-  found (Straight exp) straight before first = record {
+  found : (judged : Judged) → IsJudgedCode parameters spelled.content.code code judged → (before : List MethodOf) → IsFirst before → IsJudged class before method judged
+  found (Straight exp) (plain, returned) before first = record {
     parameters = parameters;
-    content = content;
-    candidate = candidate_of before first straight.plain;
-    formula = straight.formula;
-    postfix = straight.postfix;
-    tree = straight.tree;
+    code = code;
+    spelled = spelled;
+    candidate = candidate_of before first plain;
+    formula = returned.formula;
+    postfix = returned.straight;
+    tree = returned.tree;
   }
-  found (NotYet pc) breaks_there before first = not_yet before pc first breaks_there
+  found (NotYet pc) (inl other) before first =
+      subst (IsNotYet class before method) (sym other.1) (no_candidate spelled (λ count candidate. other.0 (plain_of before count candidate)))
+  found (NotYet pc) (inr plain) before first = breaks spelled (candidate_of before first plain.0) plain.1
 
-  pub judged_by_content : (result : Result Judged AllocError) → IfOk result (IsJudgedContent class.pool parameters content) → IfOk result (λ judged. (before : List MethodOf) → IsFirst before → IsJudged class before method judged)
-  judged_by_content (Ok judged) holds = found judged holds
-  judged_by_content (Err error) holds = holds
+  pub judged_by_code : (bytes : List ℕ) → IsSpelledBy method (Some bytes) → (result : Result Judged AllocError) → IfOk result (IsJudgedCode parameters bytes code) → IfOk result (λ judged. (before : List MethodOf) → IsFirst before → IsJudged class before method judged)
+  judged_by_code bytes (content, has, is) (Ok judged) holds =
+      let same : spelled.content ≡ content = one_content method spelled.content content spelled.has has in
+      found judged (subst (λ these. IsJudgedCode parameters these code judged) (sym (ap (λ (c : CodeContent). c.code) same ∙ is)) holds)
+  judged_by_code bytes by (Err error) holds = holds
+
+-- the bytes of spelled code are there
+pub has_bytes : (class : ClassOf) (method : MethodOf) (code : Code) → SpellsCode class method code → ¬ IsSpelledBy method None
+has_bytes class method code spelled none = none spelled.content spelled.has

@@ -1,12 +1,13 @@
 -- The body of a straight method shows what its code shows.
 use Rattle.std.proofs.Common.{◌≡◌, ℕ, zero, suc, ◌-◌, ◌*◌, ◌<◌, ◌≤◌, ◌==◌, true, false, not, List, [], ◌∷◌, ◌++◌, inl, length, map, replicate, Option, Some, None, refl, sym, ap, ◌∙◌, subst, arith, append_assoc}
 use Rattle.std.specs.Prelude.{ℤ, pos, slice_get, slice_index_or, bit_and}
-use Rattle.std.specs.Int.{bit_at}
+use Rattle.std.specs.Int.{w32, bit_at, int_wrapping_add, int_wrapping_sub, int_wrapping_mul}
 use Rattle.std.proofs.lemmas.Nat.Bits.{and_pow, bit_at_and, bit_at-lt}
 use Rattle.dj_names.specs.declared.header.Header.{Header}
 use Rattle.dj_names.specs.declared.members.ClassMembers.{ClassMembers}
 use Rattle.dj_names.specs.Types as types
-use Rattle.dj_names.specs.Types.{JType, Method, parameters_of, result_of, view_descriptor}
+use Rattle.dj_names.specs.Types.{JType, Method, parameters_of, result_of}
+use Rattle.dj_names.specs.declared.members.Constant.TheVariants as constant
 use Rattle.dj_syntax.specs.declared.variable.Var.{Var}
 use Rattle.dj_syntax.specs.declared.variable.VarKind.TheVariants as variable
 use Rattle.dj_syntax.specs.Trees.{Exp, Body, Empty, And}
@@ -17,22 +18,20 @@ use Rattle.dj_values.specs.Values as ends
 use Rattle.dj_values.specs.Fits.{AreValuesOf, is_static, behind_this}
 use Rattle.dj_values.specs.Outcomes.{State, Outcome, Is, bind, opening, shown}
 use Rattle.dj_class.specs.Described.{ClassOf, MethodOf}
-use Rattle.dj_code.specs.declared.code.Kind.TheVariants as kind
-use Rattle.dj_code.specs.declared.code.Calc.{Calc}
-use Rattle.dj_code.specs.declared.code.Calc.TheVariants as calc
-use Rattle.dj_code.specs.declared.code.Constant.TheVariants as constant
-use Rattle.dj_code.specs.declared.code.Instruction.{Instruction}
-use Rattle.dj_code.specs.declared.code.Instruction.TheVariants as instruction
-use Rattle.dj_code.specs.declared.code.Code.{Code}
-use Rattle.dj_code.specs.Instructions.{Instructions}
-use Rattle.dj_code.proofs.CodeLemmas.{decoded_unique}
+use Rattle.dj_instructions.specs.declared.kinds.Kind.TheVariants as kind
+use Rattle.dj_instructions.specs.Instructions.{Instruction, Instructions}
+use Rattle.dj_instructions.specs.Instructions as instruction
+use Rattle.dj_code.specs.MethodCode.{Code}
+use Rattle.dj_code.specs.ReadCode.{HasHead}
 use Rattle.dj_meaning.specs.Operators.{operate}
 use Rattle.dj_meaning.specs.Meaning.{Context, Scope, Store, Meaning, value, Return, run_all, ended, of_parameter, context_of, entered, source_show}
-use Rattle.dj_bytecode.specs.Machine.{Locals, local_slots, calculate, steps, slots_of, first_locals, bytecode_show}
+use Rattle.dj_bytecode.specs.Machine.{Locals, local_slots, steps, slots_of, first_locals, bytecode_show}
 use Rattle.dj_bytecode.specs.SameShows.{AreArgumentsOf, SameShows}
 use Rattle.dj_bytecode.proofs.Growth.{more_shows_more}
-use Rattle.dj_straight.specs.Straight.{Formula, Number, Parameter, Calculation, operator, exp_of, postfix, UsesParameters}
-use Rattle.dj_straight.specs.StraightMethod.{IsStraightMethod, IsBodyOf, HasCode}
+use Rattle.dj_straight.specs.declared.part.Operation.{Operation}
+use Rattle.dj_straight.specs.declared.part.Operation.TheVariants.{Add, Sub, Mul}
+use Rattle.dj_straight.specs.Straight.{Formula, Number, Parameter, Calculation, calc_of, operator, exp_of, postfix, UsesParameters}
+use Rattle.dj_straight.specs.StraightMethod.{IsStraightMethod, IsBodyOf}
 
 -- ---- numbers
 
@@ -42,11 +41,17 @@ number_at [] place = pos 0
 number_at (first ∷ rest) zero = first
 number_at (first ∷ rest) (suc place) = number_at rest place
 
+-- what an operation makes of two ints
+abbrev calculate : Operation → ℤ → ℤ → ℤ
+calculate Add left right = int_wrapping_add w32 left right
+calculate Sub left right = int_wrapping_sub w32 left right
+calculate Mul left right = int_wrapping_mul w32 left right
+
 -- the number that a formula stands for, given the arguments
 abbrev meaning : List ℤ → Formula → ℤ
 meaning arguments (Number number) = number
 meaning arguments (Parameter slot) = number_at arguments slot
-meaning arguments (Calculation calc left right) = calculate calc (meaning arguments left) (meaning arguments right)
+meaning arguments (Calculation operation left right) = calculate operation (meaning arguments left) (meaning arguments right)
 
 -- ints as values
 abbrev ints : List ℤ → List Value
@@ -113,19 +118,19 @@ record HasParameters (numbers : List ℤ) (scope : Scope) (state : State Store) 
   found : (slot : ℕ) → slot < length numbers → state.store.variables (parameter slot) ≡ Some (Int (number_at numbers slot))
 
 -- an operator on two ints
-calculates : (headers : List Header) (calc : Calc) (left right : ℤ) (first second : Meaning Value) (state : State Store) → first state ≡ Is (Int left) state → second state ≡ Is (Int right) state
-    → operate headers (operator calc) first second state ≡ Is (Int (calculate calc left right)) state
-calculates headers calc.Add left right first second state a b = rw (a, b)
-calculates headers calc.Sub left right first second state a b = rw (a, b)
-calculates headers calc.Mul left right first second state a b = rw (a, b)
+calculates : (headers : List Header) (operation : Operation) (left right : ℤ) (first second : Meaning Value) (state : State Store) → first state ≡ Is (Int left) state → second state ≡ Is (Int right) state
+    → operate headers (operator operation) first second state ≡ Is (Int (calculate operation left right)) state
+calculates headers Add left right first second state a b = rw (a, b)
+calculates headers Sub left right first second state a b = rw (a, b)
+calculates headers Mul left right first second state a b = rw (a, b)
 
 -- a formula has its number as its value
 value-is : (context : Context) (scope : Scope) (numbers : List ℤ) (formula : Formula) (state : State Store) → HasParameters numbers scope state → UsesParameters (length numbers) formula
     → value context scope (exp_of formula) state ≡ Is (Int (meaning numbers formula)) state
 value-is context scope numbers (Number number) state has uses = refl
 value-is context scope numbers (Parameter slot) state has uses = rw (has.typed slot uses, has.found slot uses)
-value-is context scope numbers (Calculation calc left right) state has uses =
-    calculates context.headers calc (meaning numbers left) (meaning numbers right) (value context scope (exp_of left)) (value context scope (exp_of right)) state (value-is context scope numbers left state has uses.0) (value-is context scope numbers right state has uses.1)
+value-is context scope numbers (Calculation operation left right) state has uses =
+    calculates context.headers operation (meaning numbers left) (meaning numbers right) (value context scope (exp_of left)) (value context scope (exp_of right)) state (value-is context scope numbers left state has uses.0) (value-is context scope numbers right state has uses.1)
 
 -- a statement that returns an int, where the method's result is int
 returns-int : (context : Context) (scope : Scope) (turns : ℕ) (exp : Exp) (number : ℤ) (state : State Store) → context.result ≡ Some types.Int → value context scope exp state ≡ Is (Int number) state
@@ -155,12 +160,12 @@ source-is headers members numbers formula body answers turns uses static descrip
 abbrev with_formula : Formula → ℕ → ℕ
 with_formula (Number number) more = suc more
 with_formula (Parameter slot) more = suc more
-with_formula (Calculation calc left right) more = with_formula left (with_formula right (suc more))
+with_formula (Calculation operation left right) more = with_formula left (with_formula right (suc more))
 
 no_fewer : (formula : Formula) (more : ℕ) → more ≤ with_formula formula more
 no_fewer (Number number) more = omega arith
 no_fewer (Parameter slot) more = omega arith
-no_fewer (Calculation calc left right) more = omega (arith, no_fewer left (with_formula right (suc more)), no_fewer right (suc more))
+no_fewer (Calculation operation left right) more = omega (arith, no_fewer left (with_formula right (suc more)), no_fewer right (suc more))
 
 module _ (headers : List Header) (code : Code) (numbers : List ℤ) (state : State Locals) (loaded : (slot : ℕ) → slot < length numbers → slice_index_or state.store slot None ≡ Some (Int (number_at numbers slot))) where
   -- so many steps from the first of these instructions on, with a stack
@@ -193,29 +198,34 @@ module _ (headers : List Header) (code : Code) (numbers : List ℤ) (state : Sta
       let found = loaded slot within in
       record { left = tail; spelled = cc; ran = λ more. rw (here, found) refl }
 
-  calculations : (calc : Calc) (left right : ℤ) (stack : List Value) (tail : Instructions) (rest : List Instruction) → map (λ i. i.1) tail ≡ instruction.Calc calc kind.Int ∷ rest → Leads rest tail (Int right ∷ Int left ∷ stack) (Int (calculate calc left right) ∷ stack) (λ more. suc more)
-  calculations calc left right stack [] rest is = absurd (cc)
-  calculations calc left right stack (first ∷ tail) rest is =
-      let here : first.1 ≡ instruction.Calc calc kind.Int = cc in
-      record { left = tail; spelled = cc; ran = λ more. rw here refl }
+  calculations : (operation : Operation) (left right : ℤ) (stack : List Value) (tail : Instructions) (rest : List Instruction) → map (λ i. i.1) tail ≡ instruction.Calc (calc_of operation) kind.Int ∷ rest → Leads rest tail (Int right ∷ Int left ∷ stack) (Int (calculate operation left right) ∷ stack) (λ more. suc more)
+  calculations operation left right stack [] rest is = absurd (cc)
+  calculations operation left right stack (first ∷ tail) rest is =
+      let here : first.1 ≡ instruction.Calc (calc_of operation) kind.Int = cc in
+      record { left = tail; spelled = cc; ran = λ more. by operation here more }
+    where
+      by : (one : Operation) → first.1 ≡ instruction.Calc (calc_of one) kind.Int → (more : ℕ) → run (suc more) (first ∷ tail) (Int right ∷ Int left ∷ stack) ≡ run more tail (Int (calculate one left right) ∷ stack)
+      by Add here more = rw here refl
+      by Sub here more = rw here refl
+      by Mul here more = rw here refl
 
   -- the code of a formula puts its number on the stack
   leads : (formula : Formula) (stack : List Value) (tail : Instructions) (rest : List Instruction) → UsesParameters (length numbers) formula → map (λ i. i.1) tail ≡ postfix formula ++ rest → Leads rest tail stack (Int (meaning numbers formula) ∷ stack) (with_formula formula)
   leads (Number number) stack tail rest uses is = pushes number stack tail rest is
   leads (Parameter slot) stack tail rest uses is = loads slot stack tail rest uses is
-  leads (Calculation calc left right) stack tail rest uses is =
+  leads (Calculation operation left right) stack tail rest uses is =
       let x = meaning numbers left in
       let y = meaning numbers right in
-      let last : List Instruction = instruction.Calc calc kind.Int ∷ rest in
-      let regroup : postfix (Calculation calc left right) ++ rest ≡ postfix left ++ (postfix right ++ last) = append_assoc (postfix left) (postfix right ++ instruction.Calc calc kind.Int ∷ []) rest ∙ ap (λ list. postfix left ++ list) (append_assoc (postfix right) (instruction.Calc calc kind.Int ∷ []) rest) in
+      let last : List Instruction = instruction.Calc (calc_of operation) kind.Int ∷ rest in
+      let regroup : postfix (Calculation operation left right) ++ rest ≡ postfix left ++ (postfix right ++ last) = append_assoc (postfix left) (postfix right ++ instruction.Calc (calc_of operation) kind.Int ∷ []) rest ∙ ap (λ list. postfix left ++ list) (append_assoc (postfix right) (instruction.Calc (calc_of operation) kind.Int ∷ []) rest) in
       let one = leads left stack tail (postfix right ++ last) uses.0 (is ∙ regroup) in
       let two = leads right (Int x ∷ stack) one.left last uses.1 one.spelled in
-      let three = calculations calc x y stack two.left rest two.spelled in
-      leads-join (postfix right ++ last) rest tail stack (Int x ∷ stack) (Int (calculate calc x y) ∷ stack) (with_formula left) (λ more. with_formula right (suc more)) one
-      (leads-join last rest one.left (Int x ∷ stack) (Int y ∷ Int x ∷ stack) (Int (calculate calc x y) ∷ stack) (with_formula right) (λ more. suc more) two three)
+      let three = calculations operation x y stack two.left rest two.spelled in
+      leads-join (postfix right ++ last) rest tail stack (Int x ∷ stack) (Int (calculate operation x y) ∷ stack) (with_formula left) (λ more. with_formula right (suc more)) one
+      (leads-join last rest one.left (Int x ∷ stack) (Int y ∷ Int x ∷ stack) (Int (calculate operation x y) ∷ stack) (with_formula right) (λ more. suc more) two three)
 
   -- `ireturn` ends the run
-  ends_with : (number : ℤ) (tail : Instructions) → result_of (view_descriptor code.descriptor) ≡ Some types.Int → map (λ i. i.1) tail ≡ instruction.Return (Some kind.Int) ∷ []
+  ends_with : (number : ℤ) (tail : Instructions) → result_of code.descriptor ≡ Some types.Int → map (λ i. i.1) tail ≡ instruction.Return (Some kind.Int) ∷ []
       → (more : ℕ) → run (suc more) tail (Int number ∷ []) ≡ Is (Some (Int number)) state
   ends_with number [] int is more = absurd (cc)
   ends_with number (first ∷ rest) int is more =
@@ -227,7 +237,7 @@ record Returns (headers : List Header) (code : Code) (arguments : List Value) (a
   enough : least ≤ bound
   shows : bytecode_show headers code arguments answers bound ≡ returned number
 
-code-is : (headers : List Header) (code : Code) (numbers : List ℤ) (formula : Formula) (answers : List Answer) (least : ℕ) → UsesParameters (length numbers) formula → result_of (view_descriptor code.descriptor) ≡ Some types.Int
+code-is : (headers : List Header) (code : Code) (numbers : List ℤ) (formula : Formula) (answers : List Answer) (least : ℕ) → UsesParameters (length numbers) formula → result_of code.descriptor ≡ Some types.Int
     → map (λ i. i.1) code.instructions ≡ postfix formula ++ instruction.Return (Some kind.Int) ∷ [] → Returns headers code (ints numbers) answers (meaning numbers formula) least
 code-is headers code numbers formula answers least uses int is =
     let behind : Locals = replicate (code.max_locals - length (slots_of (ints numbers))) None in
@@ -238,12 +248,18 @@ code-is headers code numbers formula answers least uses int is =
 
 -- ---- both
 
-module _ (class : ClassOf) (before : List MethodOf) (method : MethodOf) (exp : Exp) (body : Body) (members : List ClassMembers) (code : Code) (straight : IsStraightMethod class before method exp) (of_method : IsBodyOf class method exp body) (of_code : HasCode class method straight.content code) where
+module _ (class : ClassOf) (before : List MethodOf) (method : MethodOf) (exp : Exp) (body : Body) (members : List ClassMembers) (straight : IsStraightMethod class before method exp) (of_method : IsBodyOf class method exp body) where
+  abbrev code : Code
+  code = straight.code
+
+  abbrev of_code : HasHead class method straight.spelled.content straight.code
+  of_code = straight.spelled.head
+
   -- arguments that fit are ints, one for each parameter
   arguments-are : (headers : List Header) (arguments : List Value) → AreArgumentsOf headers code arguments → AreInts straight.parameters arguments
   arguments-are headers arguments fit =
       let static : is_static code.flags ≡ true = ap is_static of_code.flags ∙ straight.candidate.static in
-      let parameters : parameters_of (view_descriptor code.descriptor) ≡ replicate straight.parameters types.Int = ap parameters_of (of_code.descriptor ∙ straight.candidate.descriptor) in
+      let parameters : parameters_of code.descriptor ≡ replicate straight.parameters types.Int = ap parameters_of (of_code.descriptor ∙ straight.candidate.descriptor) in
       AreInts-of headers straight.parameters arguments (rw (static, parameters) at fit)
 
   uses : (numbers : List ℤ) → length numbers ≡ straight.parameters → UsesParameters (length numbers) straight.formula
@@ -258,10 +274,8 @@ module _ (class : ClassOf) (before : List MethodOf) (method : MethodOf) (exp : E
 
   code_returns : (headers : List Header) (numbers : List ℤ) (answers : List Answer) (least : ℕ) → length numbers ≡ straight.parameters → Returns headers code (ints numbers) answers (meaning numbers straight.formula) least
   code_returns headers numbers answers least as_many =
-      let int : result_of (view_descriptor code.descriptor) ≡ Some types.Int = ap result_of (of_code.descriptor ∙ straight.candidate.descriptor) in
-      let these = decoded_unique straight.content.code straight.postfix.code code.instructions straight.postfix.decoded of_code.decoded in
-      let form : map (λ i. i.1) code.instructions ≡ postfix straight.formula ++ instruction.Return (Some kind.Int) ∷ [] = ap (λ (list : Instructions). map (λ i. i.1) list) these ∙ straight.postfix.straight.form in
-      code-is headers code numbers straight.formula answers least (uses numbers as_many) int form
+      let int : result_of code.descriptor ≡ Some types.Int = ap result_of (of_code.descriptor ∙ straight.candidate.descriptor) in
+      code-is headers code numbers straight.formula answers least (uses numbers as_many) int straight.postfix.straight.form
 
   forth : (headers : List Header) (numbers : List ℤ) (answers : List Answer) (bound : ℕ) → length numbers ≡ straight.parameters → (turns : ℕ) × IsBelow (bytecode_show headers code (ints numbers) answers bound) (source_show headers members body (ints numbers) answers turns)
   forth headers numbers answers bound as_many =
@@ -275,13 +289,13 @@ module _ (class : ClassOf) (before : List MethodOf) (method : MethodOf) (exp : E
       (returns.bound, inl (source_returns headers numbers answers turns as_many ∙ sym returns.shows))
 
 -- a body that returns the expression of a straight method shows what the method's code shows
-pub straight_methods_show : (class : ClassOf) (before : List MethodOf) (method : MethodOf) (exp : Exp) (body : Body) (world : List Header) (members : List ClassMembers) (code : Code)
-    → (straight : IsStraightMethod class before method exp) → IsBodyOf class method exp body → HasCode class method straight.content code → SameShows world members code body
-straight_methods_show class before method exp body world members code straight of_method of_code = record {
+pub straight_methods_show : (class : ClassOf) (before : List MethodOf) (method : MethodOf) (exp : Exp) (body : Body) (world : List Header) (members : List ClassMembers)
+    → (straight : IsStraightMethod class before method exp) → IsBodyOf class method exp body → SameShows world members straight.code body
+straight_methods_show class before method exp body world members straight of_method = record {
   forth = λ headers may arguments fit answers bound.
-      let these = arguments-are class before method exp body members code straight of_method of_code headers arguments fit in
-      subst (λ values. (turns : ℕ) × IsBelow (bytecode_show headers code values answers bound) (source_show headers members body values answers turns)) (sym these.are) (forth class before method exp body members code straight of_method of_code headers these.numbers answers bound these.as_many);
+      let these = arguments-are class before method exp body members straight of_method headers arguments fit in
+      subst (λ values. (turns : ℕ) × IsBelow (bytecode_show headers straight.code values answers bound) (source_show headers members body values answers turns)) (sym these.are) (forth class before method exp body members straight of_method headers these.numbers answers bound these.as_many);
   back = λ headers may arguments fit answers turns.
-      let these = arguments-are class before method exp body members code straight of_method of_code headers arguments fit in
-      subst (λ values. (bound : ℕ) × IsBelow (source_show headers members body values answers turns) (bytecode_show headers code values answers bound)) (sym these.are) (back class before method exp body members code straight of_method of_code headers these.numbers answers turns these.as_many);
+      let these = arguments-are class before method exp body members straight of_method headers arguments fit in
+      subst (λ values. (bound : ℕ) × IsBelow (source_show headers members body values answers turns) (bytecode_show headers straight.code values answers bound)) (sym these.are) (back class before method exp body members straight of_method headers these.numbers answers turns these.as_many);
 }

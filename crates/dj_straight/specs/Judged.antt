@@ -1,17 +1,18 @@
 -- What is found of a method, part by part.
-use Rattle.std.specs.Prelude.{◌≡◌, ◌⊎◌, ℕ, IsTrue, List, [], ⊤}
+use Rattle.std.specs.Prelude.{◌≡◌, ◌⊎◌, ℕ, IsTrue, List, [], Option, Some, None, ⊤}
 use Rattle.dj_names.specs.Identifiers.{IsIdentifier}
-use Rattle.dj_pool.specs.declared.entry.Entry.{Entry}
-use Rattle.dj_code.specs.declared.content.CodeContent.{CodeContent}
 use Rattle.dj_class.specs.Described.{ClassOf, MethodOf}
 use Rattle.dj_syntax.specs.Trees.{Exp, view_exp}
 use Rattle.dj_syntax.specs.UnitText.{is_interface}
+use Rattle.dj_code.specs.declared.content.CodeContent.{CodeContent}
+use Rattle.dj_code.specs.MethodCode.{Code}
+use Rattle.dj_code.specs.ReadCode.{HasContent}
 use Rattle.dj_values.specs.Fits.{is_static}
-use Rattle.dj_straight.specs.Straight.{Formula, exp_of, IsStraightCode, BreaksAt}
+use Rattle.dj_straight.specs.Straight.{IsReturned, BreaksAt}
 use Rattle.dj_straight.specs.declared.straight_method.Judged.{Judged}
 use Rattle.dj_straight.specs.declared.straight_method.Judged.TheVariants.{Straight, NotYet}
 use Rattle.dj_straight.specs.Ints.{AnswersInt}
-use Rattle.dj_straight.specs.StraightMethod.{is_public, IsPlainContent, IsStraightMethod, IsNotYet}
+use Rattle.dj_straight.specs.StraightMethod.{is_public, IsPlainCode, IsStraightMethod, IsNotYet}
 
 -- the head of a straight method, its parameters aside
 pub record HasPlainHead (class : ClassOf) (method : MethodOf) : Type 0 where
@@ -21,22 +22,16 @@ pub record HasPlainHead (class : ClassOf) (method : MethodOf) : Type 0 where
   pub thrown : method.thrown ≡ []
   pub answers : AnswersInt method.descriptor
 
--- plain content whose code is one expression that it returns
-pub record IsStraightContent (pool : List Entry) (parameters : ℕ) (content : CodeContent) (exp : Exp) : Type 0 where
-  pub plain : IsPlainContent pool parameters content
-  pub formula : Formula
-  pub postfix : IsStraightCode parameters content.max_stack content.code formula
-  pub tree : exp ≡ exp_of formula
+-- the bytes of the instructions in the content of the method's Code, none where it has no such content
+abbrev pub IsSpelledBy : MethodOf → Option (List ℕ) → Type 0
+IsSpelledBy method None = (content : CodeContent) → ¬ HasContent method content
+IsSpelledBy method (Some bytes) = (content : CodeContent) × HasContent method content × (content.code ≡ bytes)
 
--- the offset at which content isn't straight
-abbrev pub IsNotYetContent : List Entry → ℕ → CodeContent → ℕ → Type 0
-IsNotYetContent pool parameters content pc =
-    ((¬ IsPlainContent pool parameters content) × (pc ≡ 0)) ⊎ (IsPlainContent pool parameters content × BreaksAt parameters content.max_stack content.code pc)
-
--- what is found of content
-abbrev pub IsJudgedContent : List Entry → ℕ → CodeContent → Judged → Type 0
-IsJudgedContent pool parameters content (Straight exp) = IsStraightContent pool parameters content (view_exp exp)
-IsJudgedContent pool parameters content (NotYet pc) = IsNotYetContent pool parameters content pc
+-- what is found of the code of a method, spelled by these bytes
+abbrev pub IsJudgedCode : ℕ → List ℕ → Code → Judged → Type 0
+IsJudgedCode parameters bytes code (Straight exp) = IsPlainCode parameters code × IsReturned parameters code.max_stack bytes code.instructions (view_exp exp)
+IsJudgedCode parameters bytes code (NotYet pc) =
+    ((¬ IsPlainCode parameters code) × (pc ≡ 0)) ⊎ (IsPlainCode parameters code × BreaksAt parameters code.max_stack bytes code.instructions pc)
 
 -- what is found of a method
 abbrev pub IsJudged : ClassOf → List MethodOf → MethodOf → Judged → Type 0

@@ -5,6 +5,7 @@
 
 mod declared;
 mod ints;
+mod part;
 mod shows;
 mod straight;
 mod straight_method;

@@ -1,14 +1,13 @@
 //! Straight methods: code that is one expression in postfix form and `ireturn`, rebuilt as that expression.
 
-ghost use Rattle.std.specs.Prelude.{◌≡◌, ◌+◌, ◌<◌, ◌^◌, ◌↔◌, ℕ, List, reverse, length, Some, IfOk, IsTrue};
+ghost use Rattle.std.specs.Prelude.{◌≡◌, ◌∷◌, [], ◌++◌, ◌<◌, ◌^◌, ◌↔◌, ℕ, List, reverse, length, Some, IfOk, IsTrue};
 ghost use Rattle.dj_syntax.specs.WellFormed.{IsWellFormedExp};
-ghost use Rattle.dj_straight.specs.Rebuilding.{IsNode, IsNodeOf, AreNodes, pushed, joined, calculated, advanced, WentOn, IsClosed};
-ghost use Rattle.dj_code.specs.declared.code.Kind.TheVariants as kind;
-ghost use Rattle.dj_code.specs.declared.code.Instruction.TheVariants.{Return};
-ghost use Rattle.dj_code.specs.Opcodes.{IsReadableFront};
+ghost use Rattle.dj_instructions.specs.Instructions.{Instructions, view_instruction, view_instructions};
+ghost use Rattle.dj_straight.specs.Rebuilding.{IsNode, IsNodeOf, AreNodes, pushed, joined, calculated, advanced, WentOn, IsClosed, Builds, IsBuiltOf, IsReturn, viewed};
 ghost use Rattle.dj_straight.specs.Straight.{Formula, operator, Number, Parameter, IsRebuilt, IfTree};
 
-use dj_code::straight::{Calc, Constant, Decoded, Instruction, Kind, read_instructions};
+use crate::part::{Operation, Part, has_straight_opcode, part_of};
+use dj_code::Instruction;
 use dj_names::{Boxed, Items};
 use dj_syntax::{Exp, Op, Var, VarKind};
 use std::alloc::{AllocError, Global};
@@ -22,6 +21,15 @@ pub enum Rebuilt {
     /// The expression that it returns.
     Tree(Exp),
     /// It isn't straight; the offset of the first instruction that breaks it.
+    Breaks(u32),
+}
+
+/// How far instructions were run.
+#[derive(Drop)]
+enum Begun {
+    /// To the end, with these trees on the stack.
+    Stack(Items<Node>),
+    /// To the first instruction that breaks them, at this offset.
     Breaks(u32),
 }
 
@@ -54,8 +62,13 @@ impl Node {
     }
 
     /// An operator with its operands, None where it is too high.
-    fn join(alloc: Global, calc: Calc, left: Node, right: Node) -> Result<Option<Node>, AllocError>
-        ensures formula { (x y : Formula) → IsNode left x → IsNode right y → IfOk result (λ node. IsNodeOf node (joined calc x y)) }
+    fn join(
+        alloc: Global,
+        operation: Operation,
+        left: Node,
+        right: Node,
+    ) -> Result<Option<Node>, AllocError>
+        ensures formula { (x y : Formula) → IsNode left x → IsNode right y → IfOk result (λ node. IsNodeOf node (joined operation x y)) }
     {
         let levels = left.levels.max(right.levels);
         if levels >= LEVELS {
@@ -64,20 +77,20 @@ impl Node {
         let left = Boxed::new(alloc, left.exp)?;
         let right = Boxed::new(alloc, right.exp)?;
         Ok(Some(Node {
-            exp: Exp::Binary(operator(calc), left, right),
+            exp: Exp::Binary(operator(operation), left, right),
             levels: levels + 1,
         }))
     }
 }
 
-/// The operator that does what an arithmetic instruction does.
-fn operator(calc: Calc) -> Op
-    ensures operator { result ≡ operator calc }
+/// The operator of an operation.
+fn operator(operation: Operation) -> Op
+    ensures operator { result ≡ operator operation }
 {
-    match calc {
-        Calc::Add => Op::Add,
-        Calc::Sub => Op::Sub,
-        Calc::Mul => Op::Mul,
+    match operation {
+        Operation::Add => Op::Add,
+        Operation::Sub => Op::Sub,
+        Operation::Mul => Op::Mul,
     }
 }
 
@@ -93,13 +106,17 @@ fn push(stack: &mut Items<Node>, node: Node, max_stack: u16) -> Result<bool, All
 }
 
 /// Puts an operator in the place of its operands, and tells whether they were there and not too high.
-fn calculate(alloc: Global, stack: &mut Items<Node>, calc: Calc) -> Result<bool, AllocError>
-    ensures stack { (formulas : List Formula) → AreNodes (reverse stack.old) formulas → IfOk result (λ done. WentOn done (calculated calc formulas) (reverse stack.new)) }
+fn calculate(
+    alloc: Global,
+    stack: &mut Items<Node>,
+    operation: Operation,
+) -> Result<bool, AllocError>
+    ensures stack { (formulas : List Formula) → AreNodes (reverse stack.old) formulas → IfOk result (λ done. WentOn done (calculated operation formulas) (reverse stack.new)) }
 {
     let (Some(right), Some(left)) = (stack.pop(), stack.pop()) else {
         return Ok(false);
     };
-    let Some(node) = Node::join(alloc, calc, left, right)? else {
+    let Some(node) = Node::join(alloc, operation, left, right)? else {
         return Ok(false);
     };
     stack.push(node)?;
@@ -110,21 +127,49 @@ fn calculate(alloc: Global, stack: &mut Items<Node>, calc: Calc) -> Result<bool,
 fn advance(
     alloc: Global,
     stack: &mut Items<Node>,
-    instruction: Instruction,
+    instruction: &Instruction,
     max_stack: u16,
     parameters: usize,
 ) -> Result<bool, AllocError>
-    ensures stack { (formulas : List Formula) → AreNodes (reverse stack.old) formulas → IfOk result (λ done. WentOn done (advanced parameters max_stack instruction formulas) (reverse stack.new)) }
+    ensures stack { (formulas : List Formula) → AreNodes (reverse stack.old) formulas → IfOk result (λ done. WentOn done (advanced parameters max_stack (view_instruction instruction.now) formulas) (reverse stack.new)) }
 {
-    match instruction {
-        Instruction::Push(Constant::Int(number)) => push(stack, Node::number(number), max_stack),
-        Instruction::Load(Kind::Int, slot) if usize::from(slot) < parameters => {
+    match part_of(instruction) {
+        Some(Part::Number(number)) => push(stack, Node::number(number), max_stack),
+        Some(Part::Parameter(slot)) if usize::from(slot) < parameters => {
             push(stack, Node::parameter(slot), max_stack)
         }
-        Instruction::Load(Kind::Int, _) => Ok(false),
-        Instruction::Calc(calc, Kind::Int) => calculate(alloc, stack, calc),
-        Instruction::Return(_) => Ok(false),
+        Some(Part::Operator(operation)) => calculate(alloc, stack, operation),
+        Some(Part::Parameter(_)) | Some(Part::Return) | None => Ok(false),
     }
+}
+
+/// Runs instructions of the code.
+fn begin(
+    alloc: Global,
+    instructions: &[(u32, Instruction)],
+    code: &[u8],
+    max_stack: u16,
+    parameters: usize,
+) -> Result<Begun, AllocError>
+    ensures built { IfOk result (IsBuiltOf parameters max_stack code.now (view_instructions instructions.now)) }
+{
+    let mut stack = Items::new(alloc);
+    for at in instructions {
+        if !has_straight_opcode(code, at.0) {
+            return Ok(Begun::Breaks(at.0));
+        }
+        if !advance(alloc, &mut stack, &at.1, max_stack, parameters)? {
+            return Ok(Begun::Breaks(at.0));
+        }
+    }
+    Ok(Begun::Stack(stack))
+}
+
+/// Whether an instruction is `ireturn`.
+fn is_return(instruction: &Instruction) -> bool
+    ensures exact { IsTrue result ↔ IsReturn (view_instruction instruction.now) }
+{
+    matches!(part_of(instruction), Some(Part::Return))
 }
 
 /// What `ireturn` at the end of the code makes of the stack.
@@ -137,48 +182,50 @@ fn close(mut stack: Items<Node>, pc: u32) -> Rebuilt
     }
 }
 
-/// Whether an instruction is an `ireturn` that ends code of this length.
-fn is_last_return(pc: u32, instruction: Instruction, length: usize) -> bool
-    ensures last { IsTrue result ↔ ((instruction ≡ Return (Some kind.Int)) × (pc + 1 ≡ length)) }
-{
-    pc as usize + 1 == length && matches!(instruction, Instruction::Return(Some(Kind::Int)))
-}
-
-/// The expression that decoded code of this length returns, or the place where it breaks.
-fn rebuild(
+/// What the last instruction of the code makes of the stack of those before it.
+fn finish(
     alloc: Global,
-    decoded: &Decoded,
-    code: &[u8],
-    max_stack: u16,
-    parameters: usize,
-) -> Result<Rebuilt, AllocError>
-    requires front { IsReadableFront code.now decoded.now.end decoded.now.instructions }
-    ensures ok { IfOk result (IsRebuilt parameters max_stack code.now) }
-{
-    let mut stack = Items::new(alloc);
-    for (pc, instruction) in decoded.instructions.as_slice() {
-        if is_last_return(*pc, *instruction, code.len()) {
-            return Ok(close(stack, *pc));
-        }
-        if !advance(alloc, &mut stack, *instruction, max_stack, parameters)? {
-            return Ok(Rebuilt::Breaks(*pc));
-        }
-    }
-    Ok(Rebuilt::Breaks(decoded.end))
-}
-
-/// The expression that the code of a static method returns, its parameters ints, or the offset at
-/// which the code isn't straight.
-pub fn straight_body(
-    alloc: Global,
+    mut stack: Items<Node>,
+    last: &(u32, Instruction),
     code: &[u8],
     max_stack: u16,
     parameters: usize,
 ) -> Result<Rebuilt, AllocError>
     requires short { length code.now < 2 ^ 32 }
-    ensures ok { IfOk result (IsRebuilt parameters max_stack code.now) }
-    ensures fits { IfOk result (λ rebuilt. IfTree rebuilt (λ exp. parameters < 2 ^ 32 → IsWellFormedExp exp)) }
+    ensures ok { (before : Instructions) (formulas : List Formula) → Builds parameters max_stack code.now before formulas → AreNodes (reverse stack) formulas → IfOk result (IsRebuilt parameters max_stack code.now (before ++ viewed last.now ∷ [])) }
+    ensures fits { (formulas : List Formula) → AreNodes (reverse stack) formulas → IfOk result (λ rebuilt. IfTree rebuilt IsWellFormedExp) }
 {
-    let decoded = read_instructions(alloc, code)?;
-    rebuild(alloc, &decoded, code, max_stack, parameters)
+    if !has_straight_opcode(code, last.0) {
+        return Ok(Rebuilt::Breaks(last.0));
+    }
+    if is_return(&last.1) {
+        return Ok(close(stack, last.0));
+    }
+    if advance(alloc, &mut stack, &last.1, max_stack, parameters)? {
+        Ok(Rebuilt::Breaks(code.len() as u32))
+    } else {
+        Ok(Rebuilt::Breaks(last.0))
+    }
+}
+
+/// The expression that the instructions of a static method return, its parameters ints, or the
+/// offset at which they aren't straight; the code is their bytes.
+pub fn straight_body(
+    alloc: Global,
+    instructions: &[(u32, Instruction)],
+    code: &[u8],
+    max_stack: u16,
+    parameters: usize,
+) -> Result<Rebuilt, AllocError>
+    requires short { length code.now < 2 ^ 32 }
+    ensures ok { IfOk result (IsRebuilt parameters max_stack code.now (view_instructions instructions.now)) }
+    ensures fits { IfOk result (λ rebuilt. IfTree rebuilt IsWellFormedExp) }
+{
+    let Some((last, before)) = instructions.split_last() else {
+        return Ok(Rebuilt::Breaks(code.len() as u32));
+    };
+    match begin(alloc, before, code, max_stack, parameters)? {
+        Begun::Stack(stack) => finish(alloc, stack, last, code, max_stack, parameters),
+        Begun::Breaks(pc) => Ok(Rebuilt::Breaks(pc)),
+    }
 }

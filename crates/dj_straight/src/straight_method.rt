@@ -8,15 +8,17 @@ ghost use Rattle.dj_syntax.specs.WellFormed.{IsWellFormedExp};
 ghost use Rattle.dj_values.specs.Fits.{is_static};
 ghost use Rattle.dj_class.specs.Described.{MethodOf};
 ghost use Rattle.dj_class.specs.Views.{view_class, view_method};
+ghost use Rattle.dj_code.specs.MethodCode.{view_code};
+ghost use Rattle.dj_code.specs.ReadCode.{SpellsCode};
 ghost use Rattle.dj_straight.specs.DeclaredMethods.{Holds};
-ghost use Rattle.dj_straight.specs.StraightMethod.{IsBodyOf, IsDeclared, is_public};
-ghost use Rattle.dj_straight.specs.Judged.{HasPlainHead, IsJudged, IsJudgedContent, IfStraight};
+ghost use Rattle.dj_straight.specs.StraightMethod.{IsBodyOf, IsDeclared, IsPlainCode, is_public};
+ghost use Rattle.dj_straight.specs.Judged.{HasPlainHead, IsJudged, IsJudgedCode, IsSpelledBy, IfStraight};
 
 use crate::declared::Declared;
 use crate::ints::answers_int;
 use crate::straight::{Rebuilt, straight_body};
-use dj_class::{ClassFile, Method, Pool, has_attribute};
-use dj_code::{CodeContent, read_content};
+use dj_class::{ClassFile, Method};
+use dj_code::{Code, read_content};
 use dj_names::{Items, copy_names, is_identifier};
 use dj_syntax::{Body, Exp, Stm, is_interface, method_bits};
 use std::alloc::{AllocError, Global};
@@ -55,31 +57,46 @@ fn has_plain_head(class: &ClassFile, method: &Method) -> bool
         && answers_int(&method.descriptor)
 }
 
-/// What is found of the content of a Code attribute.
-fn judge_content(
+/// Whether code has neither handlers nor frames, and a local for each parameter.
+fn is_plain(code: &Code, parameters: usize) -> bool
+    ensures plain { IsTrue result ↔ IsPlainCode parameters (view_code code.now) }
+{
+    code.handlers.is_empty()
+        && code.frames.is_empty()
+        && parameters <= usize::from(code.max_locals)
+}
+
+/// What is found of code, spelled by these bytes.
+fn judge_code(
     alloc: Global,
-    pool: &Pool,
-    content: &CodeContent,
+    code: &Code,
+    bytes: &[u8],
     parameters: usize,
 ) -> Result<Judged, AllocError>
-    requires short { length content.now.code < 2 ^ 32 }
-    ensures judged { IfOk result (IsJudgedContent pool.now parameters content.now) }
+    requires short { length bytes.now < 2 ^ 32 }
+    ensures judged { IfOk result (IsJudgedCode parameters bytes.now (view_code code.now)) }
     ensures fits { IfOk result (λ judged. IfStraight judged IsWellFormedExp) }
 {
-    if !content.handlers.is_empty()
-        || has_attribute(pool, content.attributes.as_slice(), "StackMapTable")
-        || parameters > usize::from(content.max_locals)
-    {
+    if !is_plain(code, parameters) {
         return Ok(Judged::NotYet(0));
     }
-    match straight_body(
-        alloc,
-        content.code.as_slice(),
-        content.max_stack,
-        parameters,
-    )? {
+    let instructions = code.instructions.as_slice();
+    match straight_body(alloc, instructions, bytes, code.max_stack, parameters)? {
         Rebuilt::Tree(exp) => Ok(Judged::Straight(exp)),
         Rebuilt::Breaks(pc) => Ok(Judged::NotYet(pc)),
+    }
+}
+
+/// The bytes of the instructions of a method that has code.
+fn bytes_of(alloc: Global, method: &Method) -> Result<Option<Items<u8>>, AllocError>
+    ensures bytes { IfOk result (IsSpelledBy (view_method method.now)) }
+{
+    let Some(content) = &method.code else {
+        return Ok(None);
+    };
+    match read_content(alloc, content.as_slice())? {
+        Some(content) => Ok(Some(content.code)),
+        None => Ok(None),
     }
 }
 
@@ -88,37 +105,39 @@ fn judge_first(
     alloc: Global,
     class: &ClassFile,
     method: &Method,
+    code: &Code,
     parameters: usize,
 ) -> Result<Judged, AllocError>
     requires ints { parameters_of (view_descriptor method.now.descriptor) ≡ replicate parameters types.Int }
+    requires spelled { SpellsCode (view_class class.now) (view_method method.now) (view_code code.now) }
     ensures judged { IfOk result (λ judged. (before : List MethodOf) → (¬ IsDeclared before method.now.name (replicate parameters types.Int)) → IsJudged (view_class class.now) before (view_method method.now) judged) }
     ensures fits { IfOk result (λ judged. IfStraight judged IsWellFormedExp) }
 {
     if !has_plain_head(class, method) {
         return Ok(Judged::NotYet(0));
     }
-    let Some(code) = &method.code else {
-        return Ok(Judged::NotYet(0));
-    };
-    match read_content(alloc, code.as_slice())? {
-        Some(content) => judge_content(alloc, &class.pool, &content, parameters),
-        None => Ok(Judged::NotYet(0)),
+    match bytes_of(alloc, method)? {
+        Some(bytes) => judge_code(alloc, code, bytes.as_slice(), parameters),
+        None => unreachable!(),
     }
 }
 
-/// What is found of a method of a class, where the table holds those before it; it is put into the table.
+/// What is found of a method of a class that has this code, where the table holds the methods before
+/// it; it is put into the table.
 pub fn judge<'a>(
     alloc: Global,
     class: &ClassFile,
     declared: &mut Declared<'a>,
     method: &'a Method,
+    code: &Code,
 ) -> Result<Judged, AllocError>
+    requires spelled { SpellsCode (view_class class.now) (view_method method.now) (view_code code.now) }
     ensures judged { IfOk result (λ judged. (before : List MethodOf) → Holds declared.old before → IsJudged (view_class class.now) before (view_method method.now) judged) }
     ensures fits { IfOk result (λ judged. IfStraight judged IsWellFormedExp) }
     ensures declared { OnOk result ((before : List MethodOf) → Holds declared.old before → Holds declared.new (before ++ view_method method.now ∷ [])) }
 {
     match declared.admit(method)? {
-        Some(parameters) => judge_first(alloc, class, method, parameters),
+        Some(parameters) => judge_first(alloc, class, method, code, parameters),
         None => Ok(Judged::NotYet(0)),
     }
 }
