@@ -3,3 +3,6 @@ pub mod ContentIsExact
 pub mod CodeLemmas
 pub mod LeastWrong
 pub mod TargetLists
+pub mod Bounds
+pub mod CodeIsOne
+pub mod CodeReading

@@ -75,7 +75,7 @@ locals_more : (values : List Tag) (items : List Item) (item : Item) → locals_b
 locals_more values [] item = refl
 locals_more values (first ∷ items) item = locals_more (changed (form_of first.kind).change values first.locals) items item
 
-least_more : (least : ℕ) (raws : List RawFrame) (raw : RawFrame) → least_behind least (raws ++ raw ∷ []) ≡ least_behind least raws + raw.delta + 1
+pub least_more : (least : ℕ) (raws : List RawFrame) (raw : RawFrame) → least_behind least (raws ++ raw ∷ []) ≡ least_behind least raws + raw.delta + 1
 least_more least [] raw = refl
 least_more least (first ∷ raws) raw = least_more (least + first.delta + 1) raws raw
 
