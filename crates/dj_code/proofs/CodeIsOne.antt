@@ -8,7 +8,7 @@ use Rattle.dj_layout.specs.Whole.{IsWhole}
 use Rattle.dj_layout.proofs.Laws.{whole_unique}
 use Rattle.dj_names.specs.Headers.{Name}
 use Rattle.dj_names.specs.Types.{Descriptor}
-use Rattle.dj_class.specs.declared.entry.Entry.{Entry}
+use Rattle.dj_pool.specs.declared.entry.Entry.{Entry}
 use Rattle.dj_class.specs.Described.{MethodOf, ClassOf}
 use Rattle.dj_instructions.specs.declared.kinds.BadKind.{BadKind}
 use Rattle.dj_instructions.specs.declared.kinds.BadKind.TheVariants as kind
