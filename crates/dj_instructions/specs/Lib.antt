@@ -8,3 +8,4 @@ pub mod Listing
 pub mod PoolParts
 pub mod Answers
 pub mod Reads
+pub mod Places
