@@ -10,7 +10,7 @@ ghost use Rattle.dj_instructions.specs.Answers.{IsAnswer};
 
 use crate::instruction::Instruction;
 use crate::pool_names::{descriptor_at, reference_at, type_of_class};
-use dj_class::{Entry, Pool};
+use dj_pool::{Entry, Pool};
 use dj_names::Constant;
 use std::alloc::{AllocError, Global};
 

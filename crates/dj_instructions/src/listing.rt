@@ -11,7 +11,7 @@ ghost use Rattle.dj_instructions.specs.Listing.{IsListing, HasBadInstruction, Is
 use crate::instruction::Instruction;
 use crate::kinds::BadKind;
 use crate::reading::instruction_read;
-use dj_class::Pool;
+use dj_pool::Pool;
 use dj_layout::Stop;
 use dj_names::Items;
 use std::alloc::Global;

@@ -12,7 +12,7 @@ ghost use Rattle.dj_instructions.specs.Answers.{IsAnswer};
 use crate::instruction::Instruction;
 use crate::pool_names::{Member, Reference, member_at, reference_at};
 use crate::references::{FieldRef, MethodRef};
-use dj_class::{Entry, Pool};
+use dj_pool::{Entry, Pool};
 use dj_names::{Descriptor, JType, Units};
 use std::alloc::{AllocError, Global};
 

@@ -10,7 +10,7 @@ ghost use Rattle.dj_instructions.specs.Answers.{IsAnswer};
 use crate::instruction::Instruction;
 use crate::pool_names::type_of_class;
 use crate::types::has_dimensions;
-use dj_class::Pool;
+use dj_pool::Pool;
 use dj_names::JType;
 use std::alloc::{AllocError, Global};
 
