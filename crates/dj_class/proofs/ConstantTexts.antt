@@ -4,7 +4,7 @@ use Rattle.std.proofs.lemmas.Bool.{false≢true}
 use Rattle.dj_names.specs.declared.types.JType as code
 use Rattle.dj_names.specs.declared.descriptor.Descriptor as code_descriptor
 use Rattle.dj_names.specs.declared.descriptor.Descriptor.TheVariants as variants
-use Rattle.dj_names.specs.Types.{JType, Descriptor, Field, Method, view_type}
+use Rattle.dj_names.specs.Types.{JType, Field, view_type}
 use Rattle.dj_names.specs.Descriptors.{SpellsDescriptor}
 use Rattle.dj_pool.specs.PoolFormat.{HasTag, text_at}
 use Rattle.dj_pool.specs.declared.entry.Entry.{Entry}

@@ -3,7 +3,6 @@ use Rattle.std.proofs.Common.{◌≡◌, [], ◌∷◌, ◌++◌, refl}
 use Rattle.std.specs.Prelude.{codes}
 use Rattle.dj_layout.specs.Parts.{number}
 use Rattle.dj_pool.specs.declared.entry.Entry.TheVariants as entry
-use Rattle.dj_pool.specs.PoolFormat.{pool}
 use Rattle.dj_class.specs.FileFormat.{Raw, file}
 
 -- the least class file, of java/lang/Object in version 52

@@ -1,5 +1,5 @@
 -- A class file reads in one way, in each pass.
-use Rattle.std.proofs.Common.{◌≡◌, ℕ, ◌-◌, List, Option, None, Some, length, refl}
+use Rattle.std.proofs.Common.{◌≡◌, ℕ, List, Option, None, Some, length, refl}
 use Rattle.dj_layout.specs.Layout.{Layout}
 use Rattle.dj_layout.specs.Exact.{IsExact}
 use Rattle.dj_layout.proofs.PartsAreExact.{exact-number, exact-exactly, exact-headed, exact-tested}

@@ -1,5 +1,5 @@
 -- What is lawful is laid out: the last passes ask more than the first.
-use Rattle.std.proofs.Common.{ℕ, ◌-◌, Bool, List, [], ◌∷◌, ◌++◌, Some, None, refl, subst}
+use Rattle.std.proofs.Common.{ℕ, Bool, List, [], ◌∷◌, ◌++◌, Some, None, refl, subst}
 use Rattle.std.specs.List.{AllByRecursion}
 use Rattle.std.proofs.lemmas.List.Elements.{recursion_from_All, All-from_recursion}
 use Rattle.dj_layout.specs.Layout.{Layout, SpellsSome, SpellsAny}

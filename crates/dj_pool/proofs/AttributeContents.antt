@@ -6,7 +6,6 @@ use Rattle.std.proofs.lemmas.List.Elements.{filter-append}
 use Rattle.std.proofs.lemmas.Slice.Eq.{bytes_eq-Decides}
 use Rattle.dj_pool.specs.declared.raw.Attribute.{Attribute}
 use Rattle.dj_pool.specs.declared.entry.Entry.{Entry}
-use Rattle.dj_pool.specs.SharedParts.{attribute}
 use Rattle.dj_pool.specs.PoolFormat.{text_at}
 use Rattle.dj_pool.specs.Attributes.{is_name, contents}
 
