@@ -1,7 +1,7 @@
 -- Paths, and what one more header changes.
 use Rattle.std.proofs.Common.{◌≡◌, ◌⊎◌, ◌↔◌, List, [], ◌∷◌, ◌++◌, Some, Contains, Bool, IsTrue, ℕ, zero, suc, ◌<◌, length, map, get_or, Any, refl, sym, ap, subst, inl, inr, ◌∙◌, arith}
 use Rattle.std.proofs.lemmas.List.Quantifiers.{Any-push}
-use Rattle.std.proofs.lemmas.List.{get_or_append_left, length_push, get_or_push, map-append}
+use Rattle.std.proofs.lemmas.List.{get_or_append_left, length_push}
 use Rattle.dj_names.specs.declared.header.Header.{Header}
 use Rattle.dj_names.specs.Headers.{Name, HasSuperclass, HasParent, IsPath, IsSubclass, Implements}
 use Rattle.dj_headers.specs.Table.{IsParent, IsAbove, bare}

@@ -1,11 +1,11 @@
 -- Tables, as places and headers come.
-use Rattle.std.proofs.Common.{◌≡◌, ◌≢◌, ◌↔◌, ◌⊎◌, ℕ, ◌<◌, List, [], ◌∷◌, ◌++◌, map, Option, Some, None, Contains, length, refl, sym, ap, subst, inl, inr, ◌∙◌, arith}
+use Rattle.std.proofs.Common.{◌≡◌, ◌≢◌, ◌↔◌, ◌⊎◌, ℕ, List, [], ◌∷◌, ◌++◌, map, Some, None, refl, sym, ap, subst, inl, inr, ◌∙◌, arith}
 use Rattle.std.proofs.lemmas.Option.{same_Some}
 use Rattle.std.proofs.lemmas.List.{map-append}
 use Rattle.dj_names.specs.declared.header.Header.{Header}
 use Rattle.dj_names.specs.Headers.{Name, Implements}
 use Rattle.dj_headers.specs.Rows.{IsSet, row_at, Opens}
-use Rattle.dj_headers.specs.Table.{Places, place_of, HasPlace, IsIndex, Extends, IsReached, IsMarked, IsTable, IsParent, IsAbove, IsPlaced, IsIn, IsUp, AreTables, IsReady, bare}
+use Rattle.dj_headers.specs.Table.{Places, place_of, IsIndex, Extends, IsTable, IsParent, IsUp, AreTables, IsReady, bare}
 use Rattle.dj_headers.proofs.RowLemmas.{none_empty, none_behind}
 use Rattle.dj_headers.proofs.PathLemmas.{Implements-own, Implements-none, Implements-before, Implements-through, Implements-cases}
 

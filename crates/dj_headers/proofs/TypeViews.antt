@@ -1,6 +1,5 @@
 -- Types of the code, seen plainly, and where they go.
-use Rattle.std.proofs.Common.{◌≡◌, ◌↔◌, ◌⊎◌, ℕ, zero, suc, List, [], ◌∷◌, Contains, IsTrue, Bool, true, false, ◌<◌, length, get_or, refl, sym, ap, subst, inl, inr, ◌∙◌, rules, arith}
-use Rattle.std.proofs.lemmas.Bool.{false≢true}
+use Rattle.std.proofs.Common.{◌≡◌, ◌↔◌, ◌⊎◌, ℕ, zero, suc, List, [], ◌∷◌, Contains, ◌<◌, length, get_or, refl, sym, ap, subst, inl, inr, ◌∙◌, rules, arith}
 use Rattle.dj_names.specs.declared.header.Header.{Header}
 use Rattle.dj_names.specs.declared.types.JType as code
 use Rattle.dj_names.specs.declared.types.JType.{the_lemmas}

@@ -1,9 +1,9 @@
 -- Types of the code, and where they go.
-use Rattle.std.proofs.Common.{◌≡◌, ◌↔◌, ◌⊎◌, List, ℕ, refl, sym, ap, subst, inl, inr, ◌∙◌, arith}
+use Rattle.std.proofs.Common.{◌≡◌, ◌↔◌, ◌⊎◌, List, refl, inl, inr, arith}
 use Rattle.dj_names.specs.declared.header.Header.{Header}
 use Rattle.dj_names.specs.declared.types.JType as code
 use Rattle.dj_names.specs.declared.types.JType.TheVariants as variants
-use Rattle.dj_names.specs.Types.{JType, Class, Array, view_type}
+use Rattle.dj_names.specs.Types.{Class, view_type}
 use Rattle.dj_names.specs.Headers.{Name, IsInterface, Implements}
 use Rattle.dj_names.specs.Assignable.{IsSubtype, array, parent, object, object_name}
 use Rattle.dj_names.proofs.AssignableLemmas.{class_cases}

@@ -1,5 +1,5 @@
 -- How the code's values, actions, answers and traces are seen as plain data.
-use Rattle.std.specs.Prelude.{List, map, Option, option_map}
+use Rattle.std.specs.Prelude.{List, map, option_map}
 use Rattle.dj_names.specs.Types.{view_type, view_descriptor}
 use Rattle.dj_values.specs.declared.reference.RefId as code_id
 use Rattle.dj_values.specs.declared.reference.RefId.TheVariants as ids

@@ -66,7 +66,9 @@ impl Action {
                 copy_put_static(alloc, class, name, kind, value)
             }
             Action::ArrayLoad(array, index) => Ok(Action::ArrayLoad(array.copy(alloc)?, *index)),
-            Action::ArrayStore(array, index, value) => copy_array_store(alloc, array, *index, value),
+            Action::ArrayStore(array, index, value) => copy_array_store(
+                alloc, array, *index, value,
+            ),
             Action::Invoke(kind, owner, name, descriptor, values) => {
                 copy_invoke(alloc, *kind, owner, name, descriptor, values.as_slice())
             }
@@ -81,10 +83,7 @@ impl Action {
 fn copy_new_array(alloc: Global, kind: &JType, sizes: &[i32]) -> Result<Action, AllocError>
     ensures equal { IfOk result (λ copy. copy ≡ NewArray kind.now sizes.now) }
 {
-    Ok(Action::NewArray(
-        kind.copy(alloc)?,
-        Items::from_slice(alloc, sizes)?,
-    ))
+    Ok(Action::NewArray(kind.copy(alloc)?, Items::from_slice(alloc, sizes)?))
 }
 
 fn copy_get_field(
@@ -159,11 +158,7 @@ fn copy_array_store(
 ) -> Result<Action, AllocError>
     ensures equal { IfOk result (λ copy. copy ≡ ArrayStore array.now index value.now) }
 {
-    Ok(Action::ArrayStore(
-        array.copy(alloc)?,
-        index,
-        value.copy(alloc)?,
-    ))
+    Ok(Action::ArrayStore(array.copy(alloc)?, index, value.copy(alloc)?))
 }
 
 fn copy_invoke(

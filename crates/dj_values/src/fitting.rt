@@ -9,7 +9,9 @@ ghost use Rattle.dj_values.specs.Fits.{innermost, IsReferenceOf, IsValueOf, IsOb
 ghost use Rattle.dj_values.specs.Answers.{IsNewArray, IsTrapped};
 
 use crate::reference::RefValue;
-use crate::types::{MOST, goes_to_object, innermost, is_array, is_class, is_in_range, is_length_of};
+use crate::types::{
+    MOST, goes_to_object, innermost, is_array, is_class, is_in_range, is_length_of,
+};
 use crate::value::Value;
 use dj_headers::{Headers, is_reference, is_subtype};
 use dj_names::{ClassName, JType, is_word, same_type};

@@ -1,7 +1,7 @@
 //! Copies of descriptors, headers and members, and order among names; the stored run of `names_check` shows what is read and what is told of it.
 use dj_names::{
-    ClassMembers, ClassName, Constant, Descriptor, Field, Header, Headers, Items, JType, Members,
-    MethodHead, NameFault, StaticType, Units, is_above_arrays, read_descriptor, read_units,
+    ClassMembers, ClassName, Constant, Descriptor, Field, Items, JType, Members,
+    MethodHead, NameFault, StaticType, Units, read_descriptor, read_units,
 };
 use std::alloc::{AllocError, Global};
 use std::test::Fail;
@@ -71,28 +71,6 @@ fn names_are_shown(rt: HostRuntime) -> Result<(), Fail> {
     Ok(())
 }
 
-fn header(alloc: Global) -> Result<Header, NameFault> {
-    Ok(Header {
-        name: class_name(alloc, "A")?,
-        superclass: Some(class_name(alloc, "java/lang/Object")?),
-        interfaces: Items::new(alloc),
-        flags: 0x21,
-    })
-}
-
-fn copied_headers(alloc: Global) -> Result<Headers, NameFault> {
-    let mut headers = Headers::new(alloc);
-    headers.push(header(alloc)?)?;
-    Ok(headers.copy(alloc)?)
-}
-
-#[test]
-fn headers_are_copied(rt: HostRuntime) -> Result<(), Fail> {
-    let copy = copied_headers(rt.alloc())?;
-    assert_eq!(rt; copy.as_slice().len(), 1);
-    Ok(())
-}
-
 fn field(alloc: Global) -> Result<Field, NameFault> {
     Ok(Field {
         flags: 8,
@@ -148,12 +126,5 @@ fn members_are_copied(rt: HostRuntime) -> Result<(), Fail> {
 fn static_types_are_copied(rt: HostRuntime) -> Result<(), Fail> {
     let kind = StaticType::Of(JType::Long).copy(rt.alloc())?;
     assert!(rt; matches!(kind, StaticType::Of(JType::Long)));
-    Ok(())
-}
-
-#[test]
-fn arrays_are_cloneable(rt: HostRuntime) -> Result<(), Fail> {
-    let cloneable = class_name(rt.alloc(), "java/lang/Cloneable")?;
-    assert!(rt; is_above_arrays(&cloneable));
     Ok(())
 }

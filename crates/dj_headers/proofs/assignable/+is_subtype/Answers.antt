@@ -1,6 +1,6 @@
-use Rattle.std.proofs.Common.{◌≡◌, inl, inr, sym, ap, subst, ◌∙◌}
-use Rattle.std.proofs.lemmas.Bool.{false≢true, both_ways}
-use Rattle.dj_names.specs.Types.{JType, view_type}
+use Rattle.std.proofs.Common.{inl, inr}
+use Rattle.std.proofs.lemmas.Bool.{both_ways}
+use Rattle.dj_names.specs.Types.{view_type}
 use Rattle.dj_headers.proofs.TypeViews.{array_class, array_of_references, array_of_primitives, plain_subtype}
 use Rattle.dj_headers.proofs.assignable.+is_subtype.Goals as goal
 

@@ -1,4 +1,4 @@
-use Rattle.std.proofs.Common.{List, ℕ, Contains, subst, sym, ◌∙◌, arith}
+use Rattle.std.proofs.Common.{List, ℕ, Contains, subst, sym, arith}
 use Rattle.std.proofs.lemmas.List.{take_all}
 use Rattle.dj_headers.proofs.PlaceLemmas.{HasPlace-more}
 use Rattle.dj_headers.proofs.places.learn_all.Goals as goal

@@ -1,4 +1,3 @@
-use Rattle.dj_headers.specs.Table.{IsParent}
 use Rattle.dj_headers.proofs.PlaceLemmas.{HasPlace-extends}
 use Rattle.dj_headers.proofs.places.learn_header.Goals as goal
 

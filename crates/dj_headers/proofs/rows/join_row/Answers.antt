@@ -1,4 +1,4 @@
-use Rattle.std.proofs.Common.{ℕ, ◌≡◌}
+use Rattle.std.proofs.Common.{◌≡◌}
 use Rattle.dj_headers.specs.Rows.{IsSet, row_at}
 use Rattle.dj_headers.proofs.RowLemmas.{both_added}
 use Rattle.dj_headers.proofs.rows.join_row.Goals as goal

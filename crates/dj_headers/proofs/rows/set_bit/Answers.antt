@@ -1,5 +1,4 @@
-use Rattle.std.proofs.Common.{ℕ, List, ◌⊎◌, ◌≡◌, ◌↔◌, subst, sym, arith}
-use Rattle.dj_headers.specs.Rows.{IsSet}
+use Rattle.std.proofs.Common.{◌≡◌, arith}
 use Rattle.dj_headers.proofs.RowLemmas.{bit_added, kept_added}
 use Rattle.dj_headers.proofs.rows.set_bit.Goals as goal
 

@@ -1,4 +1,4 @@
-use Rattle.std.proofs.Common.{List, ℕ, ◌+◌, ◌≡◌, ◌⊎◌, [], Contains, take, length, subst, sym, inl, inr, ◌∙◌, arith}
+use Rattle.std.proofs.Common.{List, ℕ, ◌+◌, ◌≡◌, ◌⊎◌, [], Contains, take, subst, sym, inl, inr, arith}
 use Rattle.std.proofs.lemmas.List.{take_all}
 use Rattle.dj_headers.specs.Table.{IsUp}
 use Rattle.dj_headers.proofs.PlaceLemmas.{Contains-take_cases, Contains-take_more}

@@ -1,4 +1,4 @@
-use Rattle.std.proofs.Common.{sym, ◌∙◌}
+use Rattle.std.proofs.Common.{sym}
 use Rattle.std.proofs.lemmas.Bool.{false≢true}
 use Rattle.dj_headers.proofs.PlaceLemmas.{apart_names}
 use Rattle.dj_headers.proofs.TableLemmas.{marked, no_place_below, no_place_above}

@@ -1,4 +1,4 @@
-use Rattle.std.proofs.Common.{◌≡◌, ◌↔◌, ◌≤◌, ℕ, ◌<◌, length}
+use Rattle.std.proofs.Common.{◌↔◌, ◌≤◌, ℕ, ◌<◌, length}
 use Rattle.dj_headers.specs.Rows.{IsSet, row_at}
 use Rattle.dj_headers.proofs.table.make_room.Given as goal
 

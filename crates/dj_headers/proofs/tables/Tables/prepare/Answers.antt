@@ -1,5 +1,4 @@
-use Rattle.std.proofs.Common.{List, ℕ, subst, sym}
-use Rattle.dj_names.specs.declared.class_name.ClassName.{ClassName}
+use Rattle.std.proofs.Common.{List, ℕ, subst}
 use Rattle.dj_headers.specs.Table.{IsParent, IsUp}
 use Rattle.dj_headers.proofs.TableLemmas.{AreTables-extends, AreTables-open_above, AreTables-open_lines}
 use Rattle.dj_headers.proofs.tables.Tables.prepare.Goals as goal
