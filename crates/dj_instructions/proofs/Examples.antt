@@ -17,7 +17,10 @@ use Rattle.dj_instructions.specs.Instructions.{Instruction, Push, Load, Calc, Ii
 use Rattle.dj_instructions.specs.RawInstructions as raw
 use Rattle.dj_instructions.specs.RawInstructions.{Raw, Table, Lookup, form_of, raw_instruction, spell_raw, padding, count_keys, can_be_wide, opcode}
 use Rattle.dj_instructions.specs.PoolNames.{Reference}
-use Rattle.dj_instructions.specs.Meanings.{Known, meaning_of, alone, with_byte, with_short, jump, target, table_switch, lookup_switch, word_constant, long_constant, call_of, sized_array, array_of, new_object}
+use Rattle.dj_instructions.specs.AloneOpcodes.{alone}
+use Rattle.dj_instructions.specs.Jumps.{jump, target, table_switch, lookup_switch}
+use Rattle.dj_instructions.specs.PoolMeanings.{Known, word_constant, long_constant, call_of, sized_array, array_of, new_object}
+use Rattle.dj_instructions.specs.Meanings.{meaning_of, with_byte, with_short}
 use Rattle.dj_instructions.specs.Listing.{HasBadInstruction}
 
 -- ---- opcodes without operands

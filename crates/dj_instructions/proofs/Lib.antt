@@ -7,3 +7,4 @@ pub mod SwitchReading
 pub mod OperandReading
 pub mod OpcodeReading
 pub mod ListingReading
+pub mod PlaceLemmas

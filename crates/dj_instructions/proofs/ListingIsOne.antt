@@ -17,7 +17,8 @@ use Rattle.dj_instructions.specs.declared.kinds.BadKind.{BadKind}
 use Rattle.dj_instructions.specs.Instructions.{Instruction, Instructions}
 use Rattle.dj_instructions.specs.RawInstructions.{Raw, size}
 use Rattle.dj_instructions.specs.PoolNames.{IsTypeNamed, NamesType, NamesDescriptor, Member, NamesMember, Reference, NamesReference}
-use Rattle.dj_instructions.specs.Meanings.{Meaning, Known, OfType, OfDescriptor, OfMember, OfReference, IsMeant, meaning_of}
+use Rattle.dj_instructions.specs.PoolMeanings.{Meaning, Known, OfType, OfDescriptor, OfMember, OfReference, IsMeant}
+use Rattle.dj_instructions.specs.Meanings.{meaning_of}
 use Rattle.dj_instructions.specs.Listing.{listing, AreMeant, IsListing, HasBadInstruction}
 use Rattle.dj_instructions.proofs.RawIsExact.{exact-listing}
 

@@ -4,7 +4,7 @@ use Rattle.dj_names.specs.Types.{JType}
 use Rattle.dj_class.specs.declared.entry.Entry.{Entry}
 use Rattle.dj_instructions.specs.Instructions.{Instruction}
 use Rattle.dj_instructions.specs.PoolNames.{Finds, NamesType, Member, NamesMember, Reference, NamesReference}
-use Rattle.dj_instructions.specs.Meanings.{Known, OfType, OfMember, OfReference, IsMeant}
+use Rattle.dj_instructions.specs.PoolMeanings.{Known, OfType, OfMember, OfReference, IsMeant}
 use Rattle.dj_instructions.proofs.ListingIsOne.{one_type, one_member, one_reference}
 
 -- what is known at once

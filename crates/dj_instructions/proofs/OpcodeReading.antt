@@ -11,7 +11,7 @@ use Rattle.dj_instructions.specs.declared.form.Form.{Form}
 use Rattle.dj_instructions.specs.declared.form.Form.TheVariants as form
 use Rattle.dj_instructions.specs.Instructions.{Instruction}
 use Rattle.dj_instructions.specs.RawInstructions.{Raw, Plain, form_of, opcode_of, behind, opcode}
-use Rattle.dj_instructions.specs.Meanings.{alone}
+use Rattle.dj_instructions.specs.AloneOpcodes.{alone}
 use Rattle.dj_instructions.specs.Reads.{HasAnswer}
 use Rattle.dj_instructions.proofs.Meant.{known}
 

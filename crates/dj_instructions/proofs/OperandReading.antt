@@ -14,7 +14,8 @@ use Rattle.dj_instructions.specs.declared.form.Form.TheVariants as form
 use Rattle.dj_instructions.specs.Instructions.{Instruction, Goto, Iinc}
 use Rattle.dj_instructions.specs.RawInstructions.{Plain, form_of, can_be_wide, widened, one, two, behind, u1, u2, u4}
 use Rattle.dj_instructions.specs.PoolNames.{Finds}
-use Rattle.dj_instructions.specs.Meanings.{IsMeant, plain, widened_load, wide}
+use Rattle.dj_instructions.specs.PoolMeanings.{IsMeant}
+use Rattle.dj_instructions.specs.Meanings.{plain, widened_load, wide}
 use Rattle.dj_instructions.specs.Reads.{HasAnswer}
 
 -- one part

@@ -9,7 +9,7 @@ use Rattle.dj_layout.specs.Parts.{number, times}
 use Rattle.dj_layout.proofs.Loops.{times_more}
 use Rattle.dj_instructions.specs.Instructions.{Instruction}
 use Rattle.dj_instructions.specs.RawInstructions.{u4, padding, count_keys, pair, table, lookup}
-use Rattle.dj_instructions.specs.Meanings.{target, table_with, table_switch, lookup_with, lookup_switch}
+use Rattle.dj_instructions.specs.Jumps.{target, table_with, table_switch, lookup_with, lookup_switch}
 use Rattle.dj_instructions.specs.Reads.{target_of, case_of}
 
 -- one item more, of which is kept what a function makes of it

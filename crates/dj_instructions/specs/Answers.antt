@@ -5,7 +5,7 @@ use Rattle.dj_class.specs.declared.entry.Entry.{Entry}
 use Rattle.dj_instructions.specs.declared.instruction.Instruction as declared
 use Rattle.dj_instructions.specs.Instructions.{view_instruction}
 use Rattle.dj_instructions.specs.PoolNames.{Finds}
-use Rattle.dj_instructions.specs.Meanings.{Meaning, IsMeant}
+use Rattle.dj_instructions.specs.PoolMeanings.{Meaning, IsMeant}
 
 -- the answer is what is meant, None where nothing is, or memory ran out
 abbrev pub IsAnswer : List Entry → Meaning → Result (Option declared.Instruction) AllocError → Type 0

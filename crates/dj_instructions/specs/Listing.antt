@@ -12,7 +12,8 @@ use Rattle.dj_instructions.specs.declared.kinds.BadKind.TheVariants.{Opcode}
 use Rattle.dj_instructions.specs.declared.instruction.Instruction as declared
 use Rattle.dj_instructions.specs.Instructions.{Instruction, Instructions, view_instructions}
 use Rattle.dj_instructions.specs.RawInstructions.{Raw, raw_instruction, spell_raw, size}
-use Rattle.dj_instructions.specs.Meanings.{IsMeant, meaning_of}
+use Rattle.dj_instructions.specs.PoolMeanings.{IsMeant}
+use Rattle.dj_instructions.specs.Meanings.{meaning_of}
 
 -- the instruction is the meaning of the bytes
 abbrev pub Means : List Entry → ℕ → Raw → Instruction → Type 0

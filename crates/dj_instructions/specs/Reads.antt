@@ -5,7 +5,9 @@ use Rattle.dj_class.specs.declared.entry.Entry.{Entry}
 use Rattle.dj_instructions.specs.Instructions.{Instruction}
 use Rattle.dj_instructions.specs.RawInstructions.{Raw}
 use Rattle.dj_instructions.specs.PoolNames.{Finds}
-use Rattle.dj_instructions.specs.Meanings.{IsMeant, meaning_of, target}
+use Rattle.dj_instructions.specs.Jumps.{target}
+use Rattle.dj_instructions.specs.PoolMeanings.{IsMeant}
+use Rattle.dj_instructions.specs.Meanings.{meaning_of}
 
 -- what an instruction at this pc means, None where it means nothing
 abbrev pub HasAnswer : List Entry → ℕ → Raw → Option Instruction → Type 0

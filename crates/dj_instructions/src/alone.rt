@@ -4,7 +4,7 @@ ghost use Rattle.std.specs.Prelude.{◌≡◌, ◌/◌, ◌%◌, slice_get};
 ghost use Rattle.std.specs.Option.{option_map};
 ghost use Rattle.dj_names.specs.declared.members.Constant.TheVariants as constant;
 ghost use Rattle.dj_instructions.specs.Instructions.{Push, ArrayLoad, ArrayStore, Return, view_instruction};
-ghost use Rattle.dj_instructions.specs.Meanings.{kinds, elements, calcs, bit_calcs, stack_moves, conversions, comparisons, float_bits, double_bits, load, store, calculation, alone};
+ghost use Rattle.dj_instructions.specs.AloneOpcodes.{kinds, elements, calcs, bit_calcs, stack_moves, conversions, comparisons, float_bits, double_bits, load, store, calculation, alone};
 
 use crate::instruction::Instruction;
 use crate::kinds::{Calc, Element, Kind};
@@ -203,7 +203,7 @@ fn returning(place: u8) -> Option<Instruction>
 }
 
 /// The instruction of an opcode that no operands follow.
-#[tactic(auto, unfolding(crate::specs::Meanings::alone))]
+#[tactic(auto, unfolding(crate::specs::AloneOpcodes::alone))]
 pub fn alone(opcode: u8) -> Option<Instruction>
     ensures alone { option_map view_instruction result ≡ alone opcode }
 {

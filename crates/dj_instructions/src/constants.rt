@@ -5,7 +5,7 @@ ghost use Rattle.std.specs.Option.{option_map};
 ghost use Rattle.dj_names.specs.declared.members.Constant.TheVariants as constant;
 ghost use Rattle.dj_class.specs.PoolFormat.{text_at};
 ghost use Rattle.dj_instructions.specs.Instructions.{Push, PushClass, PushMethodType, PushHandle, view_instruction};
-ghost use Rattle.dj_instructions.specs.Meanings.{Known, OfType, OfDescriptor, OfReference, word_constant, long_constant};
+ghost use Rattle.dj_instructions.specs.PoolMeanings.{Known, OfType, OfDescriptor, OfReference, word_constant, long_constant};
 ghost use Rattle.dj_instructions.specs.Answers.{IsAnswer};
 
 use crate::instruction::Instruction;

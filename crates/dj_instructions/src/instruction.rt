@@ -105,24 +105,16 @@ impl Instruction {
         match self {
             Instruction::Nop => Ok(Instruction::Nop),
             Instruction::PushNull => Ok(Instruction::PushNull),
-            Instruction::Push(constant) => Ok(Instruction::Push(constant.copy(alloc)?)),
-            Instruction::PushClass(class) => Ok(Instruction::PushClass(class.copy(alloc)?)),
+            Instruction::Push(constant) => constant.copy(alloc).map(Instruction::Push),
+            Instruction::PushClass(class) => class.copy(alloc).map(Instruction::PushClass),
             Instruction::PushHandle {
                 kind,
                 interface,
                 owner,
                 name,
                 descriptor,
-            } => Ok(Instruction::PushHandle {
-                kind: *kind,
-                interface: *interface,
-                owner: owner.copy(alloc)?,
-                name: name.copy(alloc)?,
-                descriptor: descriptor.copy(alloc)?,
-            }),
-            Instruction::PushMethodType(descriptor) => {
-                Ok(Instruction::PushMethodType(descriptor.copy(alloc)?))
-            }
+            } => copy_handle(alloc, *kind, *interface, owner, name, descriptor),
+            Instruction::PushMethodType(descriptor) => descriptor.copy(alloc).map(Instruction::PushMethodType),
             Instruction::Load(kind, slot) => Ok(Instruction::Load(*kind, *slot)),
             Instruction::Store(kind, slot) => Ok(Instruction::Store(*kind, *slot)),
             Instruction::ArrayLoad(element) => Ok(Instruction::ArrayLoad(*element)),
@@ -149,50 +141,101 @@ impl Instruction {
                 low,
                 targets,
                 other,
-            } => Ok(Instruction::TableSwitch {
-                low: *low,
-                targets: Items::from_slice(alloc, targets.as_slice())?,
-                other: *other,
-            }),
-            Instruction::LookupSwitch { cases, other } => Ok(Instruction::LookupSwitch {
-                cases: Items::from_slice(alloc, cases.as_slice())?,
-                other: *other,
-            }),
+            } => copy_table(alloc, *low, targets.as_slice(), *other),
+            Instruction::LookupSwitch { cases, other } => {
+                copy_lookup(alloc, cases.as_slice(), *other)
+            }
             Instruction::Return(kind) => Ok(Instruction::Return(*kind)),
-            Instruction::GetStatic(field) => Ok(Instruction::GetStatic(field.copy(alloc)?)),
-            Instruction::PutStatic(field) => Ok(Instruction::PutStatic(field.copy(alloc)?)),
-            Instruction::GetField(field) => Ok(Instruction::GetField(field.copy(alloc)?)),
-            Instruction::PutField(field) => Ok(Instruction::PutField(field.copy(alloc)?)),
-            Instruction::InvokeVirtual(method) => {
-                Ok(Instruction::InvokeVirtual(method.copy(alloc)?))
-            }
-            Instruction::InvokeSpecial(method) => {
-                Ok(Instruction::InvokeSpecial(method.copy(alloc)?))
-            }
-            Instruction::InvokeStatic(method) => Ok(Instruction::InvokeStatic(method.copy(alloc)?)),
-            Instruction::InvokeInterface(method) => {
-                Ok(Instruction::InvokeInterface(method.copy(alloc)?))
-            }
+            Instruction::GetStatic(field) => field.copy(alloc).map(Instruction::GetStatic),
+            Instruction::PutStatic(field) => field.copy(alloc).map(Instruction::PutStatic),
+            Instruction::GetField(field) => field.copy(alloc).map(Instruction::GetField),
+            Instruction::PutField(field) => field.copy(alloc).map(Instruction::PutField),
+            Instruction::InvokeVirtual(method) => method.copy(alloc).map(Instruction::InvokeVirtual),
+            Instruction::InvokeSpecial(method) => method.copy(alloc).map(Instruction::InvokeSpecial),
+            Instruction::InvokeStatic(method) => method.copy(alloc).map(Instruction::InvokeStatic),
+            Instruction::InvokeInterface(method) => method.copy(alloc).map(Instruction::InvokeInterface),
             Instruction::InvokeDynamic {
                 bootstrap,
                 name,
                 descriptor,
-            } => Ok(Instruction::InvokeDynamic {
-                bootstrap: *bootstrap,
-                name: name.copy(alloc)?,
-                descriptor: descriptor.copy(alloc)?,
-            }),
-            Instruction::New(class) => Ok(Instruction::New(class.copy(alloc)?)),
-            Instruction::NewArray(element) => Ok(Instruction::NewArray(element.copy(alloc)?)),
+            } => copy_call_site(alloc, *bootstrap, name, descriptor),
+            Instruction::New(class) => class.copy(alloc).map(Instruction::New),
+            Instruction::NewArray(element) => element.copy(alloc).map(Instruction::NewArray),
             Instruction::MultiNewArray(class, sizes) => {
                 Ok(Instruction::MultiNewArray(class.copy(alloc)?, *sizes))
             }
             Instruction::ArrayLength => Ok(Instruction::ArrayLength),
             Instruction::Throw => Ok(Instruction::Throw),
-            Instruction::CheckCast(class) => Ok(Instruction::CheckCast(class.copy(alloc)?)),
-            Instruction::InstanceOf(class) => Ok(Instruction::InstanceOf(class.copy(alloc)?)),
+            Instruction::CheckCast(class) => class.copy(alloc).map(Instruction::CheckCast),
+            Instruction::InstanceOf(class) => class.copy(alloc).map(Instruction::InstanceOf),
             Instruction::MonitorEnter => Ok(Instruction::MonitorEnter),
             Instruction::MonitorExit => Ok(Instruction::MonitorExit),
         }
     }
+}
+
+/// A method handle with equal parts.
+fn copy_handle(
+    alloc: Global,
+    kind: u8,
+    interface: bool,
+    owner: &JType,
+    name: &Units,
+    descriptor: &Descriptor,
+) -> Result<Instruction, AllocError>
+    ensures equal { IfOk result (λ copy. copy ≡ Instruction.PushHandle kind interface owner.now name.now descriptor.now) }
+{
+    Ok(Instruction::PushHandle {
+        kind,
+        interface,
+        owner: owner.copy(alloc)?,
+        name: name.copy(alloc)?,
+        descriptor: descriptor.copy(alloc)?,
+    })
+}
+
+/// A call site with equal parts.
+fn copy_call_site(
+    alloc: Global,
+    bootstrap: u16,
+    name: &Units,
+    descriptor: &Descriptor,
+) -> Result<Instruction, AllocError>
+    ensures equal { IfOk result (λ copy. copy ≡ Instruction.InvokeDynamic bootstrap name.now descriptor.now) }
+{
+    Ok(Instruction::InvokeDynamic {
+        bootstrap,
+        name: name.copy(alloc)?,
+        descriptor: descriptor.copy(alloc)?,
+    })
+}
+
+/// A `tableswitch` with equal parts.
+fn copy_table(
+    alloc: Global,
+    low: i32,
+    targets: &[u32],
+    other: u32,
+) -> Result<Instruction, AllocError>
+    ensures equal { IfOk result (λ copy. copy ≡ Instruction.TableSwitch low targets.now other) }
+{
+    Ok(Instruction::TableSwitch {
+        low,
+        targets: Items::from_slice(alloc, targets)?,
+        other,
+    })
+}
+
+/// A `lookupswitch` with equal parts.
+fn copy_lookup(
+    alloc: Global,
+    cases: &[(i32, u32)],
+    other: u32,
+) -> Result<Instruction, AllocError>
+    ensures equal { IfOk result (λ copy. copy ≡ Instruction.LookupSwitch cases.now other) }
+{
+    Ok(Instruction::LookupSwitch {
+        cases: Items::from_slice(alloc, cases)?,
+        other,
+    })
 }

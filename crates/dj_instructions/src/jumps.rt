@@ -3,7 +3,7 @@
 ghost use Rattle.std.specs.Prelude.{◌≡◌, slice_get};
 ghost use Rattle.std.specs.Option.{option_map};
 ghost use Rattle.dj_instructions.specs.Instructions.{IfZero, IfInts, view_instruction};
-ghost use Rattle.dj_instructions.specs.Meanings.{tests, target, jump, do_rise};
+ghost use Rattle.dj_instructions.specs.Jumps.{tests, target, jump, do_rise};
 
 use crate::instruction::Instruction;
 use crate::kinds::Test;
@@ -45,7 +45,7 @@ fn if_ints(place: u8, to: u32) -> Option<Instruction>
 }
 
 /// A jump with an offset of two bytes, to this pc.
-#[tactic(auto, unfolding(crate::specs::Meanings::jump))]
+#[tactic(auto, unfolding(crate::specs::Jumps::jump))]
 pub fn jump(opcode: u8, to: u32) -> Option<Instruction>
     ensures jump { option_map view_instruction result ≡ jump opcode to }
 {

@@ -4,7 +4,7 @@ ghost use Rattle.std.specs.Prelude.{◌≡◌};
 ghost use Rattle.std.specs.Option.{option_map};
 ghost use Rattle.dj_names.specs.Types.{view_type};
 ghost use Rattle.dj_instructions.specs.Instructions.{CheckCast, InstanceOf, view_instruction};
-ghost use Rattle.dj_instructions.specs.Meanings.{OfType, primitive_of, primitive_array, new_object, array_of, sized_array};
+ghost use Rattle.dj_instructions.specs.PoolMeanings.{OfType, primitive_of, primitive_array, new_object, array_of, sized_array};
 ghost use Rattle.dj_instructions.specs.Answers.{IsAnswer};
 
 use crate::instruction::Instruction;

@@ -7,7 +7,7 @@ ghost use Rattle.dj_layout.specs.Layout.{Reads, ReadsAs};
 ghost use Rattle.dj_layout.specs.Parts.{times};
 ghost use Rattle.dj_instructions.specs.Instructions.{view_instruction};
 ghost use Rattle.dj_instructions.specs.RawInstructions.{padding, count_keys, pair, table, lookup, u4};
-ghost use Rattle.dj_instructions.specs.Meanings.{table_with, table_switch, lookup_with, lookup_switch};
+ghost use Rattle.dj_instructions.specs.Jumps.{table_with, table_switch, lookup_with, lookup_switch};
 ghost use Rattle.dj_instructions.specs.Reads.{target_of, case_of};
 
 use crate::instruction::Instruction;

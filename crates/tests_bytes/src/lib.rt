@@ -8,6 +8,8 @@ mod classes;
 #[cfg(test)]
 mod code;
 #[cfg(test)]
+mod instructions;
+#[cfg(test)]
 mod layouts;
 #[cfg(test)]
 mod names;

@@ -1,5 +1,5 @@
 use Rattle.std.proofs.Common.{◌≡◌, length}
-use Rattle.dj_instructions.specs.Meanings.{do_rise}
+use Rattle.dj_instructions.specs.Jumps.{do_rise}
 use Rattle.dj_instructions.proofs.jumps.do_rise.Given as goal
 
 abbrev pub invariant-loop-left : goal.invariant-loop-left

@@ -1,7 +1,7 @@
 use Rattle.std.specs.Option.{option_map}
 use Rattle.dj_instructions.specs.Instructions.{view_instruction}
 use Rattle.dj_instructions.specs.PoolNames.{Member, view_member}
-use Rattle.dj_instructions.specs.Meanings.{dynamic_call}
+use Rattle.dj_instructions.specs.PoolMeanings.{dynamic_call}
 use Rattle.dj_instructions.proofs.Meant.{member_meant}
 use Rattle.dj_instructions.proofs.members.dynamic_with.Goals as goal
 

@@ -1,7 +1,7 @@
 use Rattle.std.specs.Option.{option_map}
 use Rattle.dj_instructions.specs.Instructions.{view_instruction}
 use Rattle.dj_instructions.specs.PoolNames.{view_reference}
-use Rattle.dj_instructions.specs.Meanings.{access_of}
+use Rattle.dj_instructions.specs.PoolMeanings.{access_of}
 use Rattle.dj_instructions.proofs.Meant.{reference_meant}
 use Rattle.dj_instructions.proofs.members.field_access.Goals as goal
 

@@ -1,7 +1,7 @@
 use Rattle.std.specs.Option.{option_map}
 use Rattle.dj_instructions.specs.Instructions.{view_instruction}
 use Rattle.dj_instructions.specs.PoolNames.{view_reference}
-use Rattle.dj_instructions.specs.Meanings.{call_of}
+use Rattle.dj_instructions.specs.PoolMeanings.{call_of}
 use Rattle.dj_instructions.proofs.Meant.{reference_meant}
 use Rattle.dj_instructions.proofs.members.method_call.Goals as goal
 

@@ -1,7 +1,7 @@
 use Rattle.std.specs.Option.{option_map}
 use Rattle.dj_names.specs.Types.{view_type}
 use Rattle.dj_instructions.specs.Instructions.{view_instruction}
-use Rattle.dj_instructions.specs.Meanings.{array_of}
+use Rattle.dj_instructions.specs.PoolMeanings.{array_of}
 use Rattle.dj_instructions.proofs.Meant.{type_meant}
 use Rattle.dj_instructions.proofs.objects.new_array_at.Goals as goal
 

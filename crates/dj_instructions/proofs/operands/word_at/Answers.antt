@@ -2,7 +2,7 @@ use Rattle.std.proofs.Common.{ℕ, Some, ap, sym, ◌∙◌}
 use Rattle.dj_instructions.specs.declared.form.Form.TheVariants.{Word}
 use Rattle.dj_instructions.specs.Instructions.{Goto}
 use Rattle.dj_instructions.specs.RawInstructions.{u4}
-use Rattle.dj_instructions.specs.Meanings.{target}
+use Rattle.dj_instructions.specs.Jumps.{target}
 use Rattle.dj_instructions.proofs.SwitchReading.{kept}
 use Rattle.dj_instructions.proofs.OperandReading.{one_read}
 use Rattle.dj_instructions.proofs.operands.word_at.Goals as goal

@@ -3,7 +3,8 @@ use Rattle.std.specs.Option.{option_map}
 use Rattle.dj_instructions.specs.Instructions.{view_instruction}
 use Rattle.dj_instructions.specs.declared.instruction.Instruction as declared
 use Rattle.dj_instructions.specs.RawInstructions.{TableSwitch, LookupSwitch, Wide, table, lookup, widened, table_of, lookup_of, widened_of}
-use Rattle.dj_instructions.specs.Meanings.{table_switch, lookup_switch, wide}
+use Rattle.dj_instructions.specs.Jumps.{table_switch, lookup_switch}
+use Rattle.dj_instructions.specs.Meanings.{wide}
 use Rattle.dj_instructions.proofs.Meant.{known}
 use Rattle.dj_instructions.proofs.OpcodeReading.{unknown_read, alone_read, own_form}
 use Rattle.dj_instructions.proofs.reading.behind_at.Goals as goal

@@ -1,0 +1,183 @@
+//! Methods of the standard's own examples as instructions (JVMS 3.2, 3.10), and code that is bad.
+use dj_class::{Entry, Pool};
+use dj_instructions::{
+    BadKind, Instruction, Kind, instruction_at, is_start, read_instructions, type_of_class,
+};
+use dj_layout::{Fault, Stop};
+use dj_names::{Constant, Items, JType, Units};
+use std::alloc::{AllocError, Global};
+use std::test::Fail;
+
+/// `spin`: counts a local to 100.
+fn spin() -> &'static [u8] {
+    &[
+        0x03, 0x3c, 0xa7, 0x00, 0x06, 0x84, 0x01, 0x01, 0x1b, 0x10, 0x64, 0xa1, 0xff, 0xfa, 0xb1,
+    ]
+}
+
+/// `chooseNear`: a switch by a table.
+fn choose_near() -> &'static [u8] {
+    &[
+        0x1b, 0xaa, 0, 0, 0, 0, 0, 0x21, 0, 0, 0, 0, 0, 0, 0, 2, 0, 0, 0, 0x1b, 0, 0, 0, 0x1d, 0,
+        0, 0, 0x1f, 0x03, 0xac, 0x04, 0xac, 0x05, 0xac, 0x02, 0xac,
+    ]
+}
+
+/// `chooseFar`: a switch by a lookup.
+fn choose_far() -> &'static [u8] {
+    &[
+        0x1b, 0xab, 0, 0, 0, 0, 0, 0x29, 0, 0, 0, 3, 0xff, 0xff, 0xff, 0x9c, 0, 0, 0, 0x23, 0, 0,
+        0, 0, 0, 0, 0, 0x25, 0, 0, 0, 0x64, 0, 0, 0, 0x27, 0x02, 0xac, 0x03, 0xac, 0x04, 0xac,
+        0x05, 0xac,
+    ]
+}
+
+/// A pool with a long at 1, the class of arrays of `int` at 4, and the class `C` at 6.
+fn pool(alloc: Global) -> Result<Pool, AllocError> {
+    let mut entries = Items::new(alloc);
+    entries.push(Entry::Skip)?;
+    entries.push(Entry::Long(5))?;
+    entries.push(Entry::Skip)?;
+    entries.push(Entry::Utf8(Units::from_slice(alloc, &[0x5b, 0x49])?))?;
+    entries.push(Entry::Class(3))?;
+    entries.push(Entry::Utf8(Units::from_slice(alloc, &[0x43])?))?;
+    entries.push(Entry::Class(5))?;
+    Pool::new(alloc, entries)
+}
+
+/// What an instruction is, by a letter, and a number of it.
+fn told(instruction: &Instruction) -> (char, i64) {
+    match instruction {
+        Instruction::Push(Constant::Int(number)) => ('p', i64::from(*number)),
+        Instruction::Load(Kind::Int, slot) => ('l', i64::from(*slot)),
+        Instruction::Store(Kind::Int, slot) => ('s', i64::from(*slot)),
+        Instruction::Iinc(_, by) => ('i', i64::from(*by)),
+        Instruction::IfInts(_, to) => ('c', i64::from(*to)),
+        Instruction::Goto(to) => ('g', i64::from(*to)),
+        Instruction::Return(Some(_)) => ('r', 1),
+        Instruction::Return(None) => ('r', 0),
+        _ => ('?', 0),
+    }
+}
+
+/// What the instructions of a code are, those of a switch without its targets.
+fn listed(alloc: Global, code: &[u8]) -> Result<Vec<(u32, char, i64)>, Stop<BadKind>> {
+    let pool = pool(alloc)?;
+    let found = read_instructions(alloc, &pool, code)?;
+    let mut lines = Vec::new(alloc);
+    for (pc, instruction) in found.as_slice() {
+        let (letter, number) = told(&instruction.copy(alloc)?);
+        lines.push((*pc, letter, number))?;
+    }
+    Ok(lines)
+}
+
+/// Whether these are the lines of a code.
+fn are_lines(alloc: Global, code: &[u8], lines: &[(u32, char, i64)]) -> bool {
+    match listed(alloc, code) {
+        Ok(found) => found.as_slice() == lines,
+        Err(_) => false,
+    }
+}
+
+#[test]
+fn a_loop_is_read(rt: HostRuntime) {
+    let lines = [
+        (0, 'p', 0),
+        (1, 's', 1),
+        (2, 'g', 8),
+        (5, 'i', 1),
+        (8, 'l', 1),
+        (9, 'p', 100),
+        (11, 'c', 5),
+        (14, 'r', 0),
+    ];
+    assert!(rt; are_lines(rt.alloc(), spin(), &lines));
+}
+
+/// Whether the second instruction is a switch with these targets, the last for what is no key.
+fn has_targets(alloc: Global, code: &[u8], wanted: &[u32], last: u32) -> Result<bool, Stop<BadKind>> {
+    let pool = pool(alloc)?;
+    let found = read_instructions(alloc, &pool, code)?;
+    Ok(match instruction_at(found.as_slice(), 1) {
+        Some(Instruction::TableSwitch { targets, other, .. }) => {
+            targets.as_slice() == wanted && *other == last
+        }
+        Some(Instruction::LookupSwitch { cases, other }) => {
+            cases.as_slice().iter().map(|case| case.1).eq(wanted.iter().copied()) && *other == last
+        }
+        _ => false,
+    })
+}
+
+#[test]
+fn switches_are_read(rt: HostRuntime) -> Result<(), Fail> {
+    let near = has_targets(rt.alloc(), choose_near(), &[28, 30, 32], 34);
+    assert!(rt; near.ok().ok_or("a listing")?);
+    let far = has_targets(rt.alloc(), choose_far(), &[36, 38, 40], 42);
+    assert!(rt; far.ok().ok_or("a listing")?);
+    Ok(())
+}
+
+/// Whether a code is bad in this way at this pc.
+fn is_bad(alloc: Global, code: &[u8], kind: BadKind, offset: usize) -> bool {
+    match listed(alloc, code) {
+        Err(Stop::Fault(fault)) => fault == Fault { kind, offset },
+        Err(Stop::Memory) => false,
+        Ok(_) => false,
+    }
+}
+
+#[test]
+fn bad_instructions_are_told(rt: HostRuntime) {
+    let opcodes: [&[u8]; 7] = [
+        // `jsr`, and an opcode that `wide` doesn't go before
+        &[0xa8, 0, 3],
+        &[0xc4, 0],
+        // `ldc` of a long, `new` of an array, more sizes than the array has
+        &[0x12, 1],
+        &[0xbb, 0, 4],
+        &[0xc5, 0, 4, 2],
+        // keys from 1 to 0, and the key 7 twice
+        &[0xaa, 0, 0, 0, 0, 0, 0, 0, 0, 0, 0, 1, 0, 0, 0, 0],
+        &[
+            0xab, 0, 0, 0, 0, 0, 0, 0, 0, 0, 0, 2, 0, 0, 0, 7, 0, 0, 0, 0, 0, 0, 0, 7, 0, 0, 0, 0,
+        ],
+    ];
+    for code in opcodes {
+        assert!(rt; is_bad(rt.alloc(), code, BadKind::Opcode, 0));
+    }
+    assert!(rt; is_bad(rt.alloc(), &[0, 0xc4], BadKind::CutOff, 1));
+    assert!(rt; is_bad(rt.alloc(), &[0x04, 0x10], BadKind::CutOff, 1));
+}
+
+/// Whether the pool's classes are an array of ints and a class.
+fn has_its_types(alloc: Global) -> Result<bool, AllocError> {
+    let pool = pool(alloc)?;
+    let array = type_of_class(alloc, &pool, 4)?;
+    let class = type_of_class(alloc, &pool, 6)?;
+    let none = type_of_class(alloc, &pool, 3)?;
+    Ok(matches!(array, Some(JType::Array(_)))
+        && matches!(class, Some(JType::Class(_)))
+        && none.is_none())
+}
+
+/// How many of the pcs up to 14 are starts of instructions of `spin`.
+fn starts(alloc: Global) -> Result<usize, Stop<BadKind>> {
+    let pool = pool(alloc)?;
+    let found = read_instructions(alloc, &pool, spin())?;
+    let mut count = 0usize;
+    for pc in 0..15 {
+        if is_start(found.as_slice(), pc) {
+            count += 1;
+        }
+    }
+    Ok(count)
+}
+
+#[test]
+fn types_and_starts_are_found(rt: HostRuntime) -> Result<(), Fail> {
+    assert!(rt; has_its_types(rt.alloc())?);
+    assert_eq!(rt; starts(rt.alloc()).ok(), Some(8));
+    Ok(())
+}
