@@ -6,3 +6,4 @@ pub mod TargetLists
 pub mod Bounds
 pub mod CodeIsOne
 pub mod CodeReading
+pub mod Examples

@@ -16,7 +16,7 @@ mod targets;
 pub use content::{CodeContent, RawHandler, read_content};
 pub use dj_frames::{Frame, Slots, Tag, entry_frame};
 pub use dj_instructions::{
-    BadKind, Calc, Element, FieldRef, Instruction, Kind, MethodRef, Test,
+    BadKind, Calc, Element, FieldRef, Instruction, Kind, MethodRef, Test, instruction_at, is_start,
     read_instructions, type_of_class,
 };
 pub use fault::CodeFault;

@@ -11,8 +11,7 @@ use crate::content::RawHandler;
 use crate::method_code::Handler;
 use crate::targets::least_wrong;
 use dj_class::Pool;
-use dj_frames::is_start;
-use dj_instructions::Instruction;
+use dj_instructions::{Instruction, is_start};
 use dj_names::{ClassName, Items, Units};
 use std::alloc::{AllocError, Global};
 

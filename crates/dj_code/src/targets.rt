@@ -5,8 +5,7 @@ ghost use Rattle.dj_instructions.specs.Instructions.{view_instruction, view_inst
 ghost use Rattle.dj_code.specs.Targets.{IsLeast, IsStart, JumpsRight, AllJumpRight, JumpsWrong};
 ghost use Rattle.dj_code.specs.Checks.{lesser};
 
-use dj_frames::is_start;
-use dj_instructions::Instruction;
+use dj_instructions::{Instruction, is_start};
 
 /// The least pc so far of what isn't right, with this pc behind the others.
 pub fn least_wrong(right: bool, least: Option<u32>, pc: u32) -> Option<u32>

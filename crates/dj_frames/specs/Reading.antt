@@ -23,12 +23,6 @@ pub record IsNew (instruction : Instruction) : Type 0 where
   pub class : List ℕ
   pub is : instruction ≡ New class
 
--- the instruction at this place of the list begins at the offset
-pub record IsPlaceOf (instructions : List (ℕ × declared.Instruction)) (at place : ℕ) : Type 0 where
-  pub within : place < length instructions
-  pub here : (d : ℕ × declared.Instruction) → (slice_index_or instructions place d).0 ≡ at
-  pub found : (d : ℕ × declared.Instruction) → instruction_at (view_instructions instructions) at ≡ Some (view_instruction (slice_index_or instructions place d).1)
-
 -- ---- one frame after the other
 
 -- the frame stands at an instruction, and there are as many values as it chops

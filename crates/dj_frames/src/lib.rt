@@ -20,6 +20,5 @@ mod written;
 pub use entry::entry_frame;
 pub use frame::Frame;
 pub use frames::read_frames;
-pub use places::is_start;
 pub use slots::Slots;
 pub use tag::Tag;

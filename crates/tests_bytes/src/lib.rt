@@ -6,6 +6,8 @@
 #[cfg(test)]
 mod classes;
 #[cfg(test)]
+mod code;
+#[cfg(test)]
 mod instructions;
 #[cfg(test)]
 mod layouts;
