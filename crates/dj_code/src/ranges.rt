@@ -10,7 +10,7 @@ ghost use Rattle.dj_code.specs.Targets.{IsLeast, LeadsRight, RangesRight, Starts
 use crate::content::RawHandler;
 use crate::method_code::Handler;
 use crate::targets::least_wrong;
-use dj_class::Pool;
+use dj_pool::Pool;
 use dj_instructions::{Instruction, is_start};
 use dj_names::{ClassName, Items, Units};
 use std::alloc::{AllocError, Global};

@@ -13,7 +13,7 @@ ghost use Rattle.dj_frames.specs.Reading.{IsListedTo, ReadsTable};
 use crate::follow::{Listed, follow};
 use crate::locals::Locals;
 use crate::written::written_at;
-use dj_class::Pool;
+use dj_pool::Pool;
 use dj_instructions::{BadKind, Instruction};
 use dj_layout::{Fault, Stop, fault_at, u16_at};
 use dj_names::Items;

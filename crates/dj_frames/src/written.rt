@@ -11,7 +11,7 @@ ghost use Rattle.dj_frames.specs.Reading.{view_written};
 use crate::form::form_of;
 use crate::tag::Tag;
 use crate::tags::tags_at;
-use dj_class::Pool;
+use dj_pool::Pool;
 use dj_instructions::{BadKind, Instruction};
 use dj_layout::{Stop, fault_at, u8_at, u16_at};
 use dj_names::Items;
