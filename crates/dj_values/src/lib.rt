@@ -1,6 +1,6 @@
 //! Values, and what a run asks of the outside, is told, shows and comes to: the outcomes that bytecode and source share.
-//! It stands on `dj_names`: its types, its headers, and which types go where.
-//! The layers above use `tests_decide`, by which the tests that a run makes of answers decide what an answer can be, and `longer_runs_show_more`, by which a run that goes on from one that was cut shows more.
+//! It stands on `dj_names` and `dj_headers`: types, headers, and which types go where.
+//! The layers above use `fits`, which tells exactly which answers an action can have; `tests_decide`, by which the tests that a run makes of answers do so too; and `longer_runs_show_more`, by which a run that goes on from one that was cut shows more.
 #![tactic(auto)]
 
 mod action;
