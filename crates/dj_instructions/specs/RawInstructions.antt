@@ -87,6 +87,7 @@ pub data Raw : Type 0 where
   LookupSwitch : ℕ → Lookup → Raw
   Wide : ℕ → Widened → Raw
 
+-- the opcode of an instruction; of `wide`, `wide` itself
 abbrev pub opcode_of : Raw → ℕ
 opcode_of (Plain op x y) = op
 opcode_of (TableSwitch op t) = op
@@ -130,12 +131,15 @@ widened_of (Wide op w) = w
 
 -- ---- the layout; what is cut off is told at the instruction
 
+-- a number of one byte
 abbrev pub u1 : Layout BadKind ℕ
 u1 = number 1 CutOff
 
+-- a number of two bytes
 abbrev pub u2 : Layout BadKind ℕ
 u2 = number 2 CutOff
 
+-- a number of four bytes
 abbrev pub u4 : Layout BadKind ℕ
 u4 = number 4 CutOff
 
