@@ -1,7 +1,6 @@
 -- Instructions as they are spelled: an opcode, and the numbers behind it as they stand (JVMS 6.5).
 use Rattle.std.specs.Prelude.{ℕ, ◌+◌, ◌-◌, ◌%◌, ◌==◌, Bool, true, false, ◌||◌, if◌then◌else◌, ℤ, int_lt, unsigned_abs, ◌-ℤ◌, List, [], length}
 use Rattle.std.specs.Int.{w32, cast_signed, is_in_range}
-
 use Rattle.dj_layout.specs.Layout.{Layout}
 use Rattle.dj_layout.specs.Parts.{number, run, exactly, headed, times, tested, choice}
 use Rattle.dj_layout.specs.Passes.{told_in_front}
