@@ -28,9 +28,9 @@ module _ (class : ClassOf) (method : MethodOf) where
   content_stops bytes (fault.Memory error) body reads = tt
   content_stops bytes (fault.BadCode pc bad) body (is, at, none) =
       rw (is, at) (layout (λ content has.
-          let bodies : Some has.bytes ≡ Some bytes = sym has.body ∙ body in
-          let same : has.bytes ≡ bytes = cc in
-          none content (subst (λ (t : List ℕ). IsWhole layouts.content t content) same has.laid_out)))
+      let bodies : Some has.bytes ≡ Some bytes = sym has.body ∙ body in
+      let same : has.bytes ≡ bytes = cc in
+      none content (subst (λ (t : List ℕ). IsWhole layouts.content t content) same has.laid_out)))
 
   -- the instructions aren't right
   pub checked_stops : (content : CodeContent) (why : CodeFault) → HasContent method content → ReadsChecked class.pool content (Err why) → IsCodeFault class method why

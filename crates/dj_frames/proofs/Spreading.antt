@@ -89,6 +89,7 @@ front_taken {A = A} xs now n front le =
     length_taken zero ys le = refl
     length_taken (suc k) [] le = absurd (omega arith)
     length_taken (suc k) (y ∷ ys) le = ap suc (length_taken k ys (omega arith))
+
     take_less : (k m : ℕ) (ys : List A) → k ≤ m → take k (take m ys) ≡ take k ys
     take_less zero m ys le = refl
     take_less (suc k) zero ys le = absurd (omega arith)

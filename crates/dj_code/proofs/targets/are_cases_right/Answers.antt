@@ -14,6 +14,6 @@ returns-then-not-is_start c =
     record {
       exact = (
         λ e. absurd (false≢true e),
-        λ all. absurd (cases_wrong (IsStart (view_instructions c.args.instructions.now)) c.args.cases.now c.loop-case.case-index _ c.loop-case-test.true (λ right. false≢true (c.if-not-is_start.ensures.exact.1 right)) all),
+        λ all. absurd (cases_wrong (IsStart (view_instructions c.args.instructions.now)) c.args.cases.now c.loop-case.case-index _ c.loop-case-test.true (λ right. false≢true (c.if-not-is_start.ensures.start.1 right)) all),
       );
     }
