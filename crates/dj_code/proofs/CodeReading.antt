@@ -1,5 +1,5 @@
 -- Why the code of a method isn't read, and what is answered.
-use Rattle.std.proofs.Common.{◌≡◌, ℕ, List, Some, Result, Ok, Err, sym, ap, subst, ◌∙◌, inl, inr}
+use Rattle.std.proofs.Common.{◌≡◌, ℕ, List, Some, Result, Ok, Err, sym, subst, ◌∙◌, inl, inr}
 use Rattle.dj_layout.specs.Whole.{IsWhole}
 use Rattle.dj_class.specs.declared.entry.Entry.{Entry}
 use Rattle.dj_class.specs.Described.{MethodOf, ClassOf}
