@@ -131,7 +131,7 @@ def explains(mine, theirs):
 
 
 def compare_damaged(program, folder, files, count, rng, wrong):
-    lones = [lone for data in files if len(data) < 6_000 for lone in lone_methods(data) if 40 < len(lone.content) < 1_200]
+    lones = [lone for data in files if len(data) < 9_000 for lone in lone_methods(data) if 40 < len(lone.content) < 1_500]
     tally, reasons = collections.Counter(), collections.Counter()
     for done in range(0, count, BATCH):
         chosen = [(lone, damage(rng, lone)) for lone in rng.choices(lones, k=min(BATCH, count - done))]

@@ -2,7 +2,7 @@
 
 usage: python3 checks/texts.py PROGRAM [COUNT [SEED]], with the built text_check as PROGRAM, or - for javac and the rules of the text alone.
 COUNT units (20,000) are made by PROGRAM, and as many here by `random_units.py`, whose texts and shapes `unit_texts.py`
-writes from the rules alone. javac has to take each text and to make a tree of the shape that is told; PROGRAM has to read
+and `unit_shapes.py` write from the rules alone. javac has to take each text and to make a tree of the shape that is told; PROGRAM has to read
 each, as a unit of that shape. The same of texts of which one token is deleted or doubled: where PROGRAM reads one, javac
 takes it, with the same shape. A difference that no rule named here explains is printed, and the exit status is 1.
 
@@ -47,7 +47,8 @@ what stands before a dot or a bracket no number of 0 or more, since `5.x` begins
 """
 import collections, pathlib, random, re, subprocess, sys, tempfile
 from random_units import Maker
-from unit_texts import shape, text
+from unit_shapes import shape
+from unit_texts import text
 
 FOLDER = pathlib.Path(__file__).parent
 BATCH = 2_000
