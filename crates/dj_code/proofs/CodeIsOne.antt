@@ -1,6 +1,5 @@
 -- A method has one code, or one first fault, and never both.
-use Rattle.std.proofs.Common.{◌≡◌, ◌≤◌, ◌↔◌, ℕ, Bool, true, false, List, map, length, Some, IsTrue, Result, Ok, Err, refl, sym, ap, subst, ◌∙◌, inl, inr, arith}
-use Rattle.std.specs.Prelude.{IsBitSet, slice_index_or}
+use Rattle.std.proofs.Common.{◌≡◌, ◌↔◌, ℕ, Bool, true, false, List, map, length, Some, IsTrue, refl, sym, ap, subst, ◌∙◌, arith}
 use Rattle.std.specs.List.{All, Any}
 use Rattle.std.proofs.lemmas.Bool.{false≢true}
 use Rattle.dj_layout.specs.declared.fault.Fault.{Fault}
@@ -11,7 +10,6 @@ use Rattle.dj_names.specs.Types.{Descriptor}
 use Rattle.dj_pool.specs.declared.entry.Entry.{Entry}
 use Rattle.dj_class.specs.Described.{MethodOf, ClassOf}
 use Rattle.dj_instructions.specs.declared.kinds.BadKind.{BadKind}
-use Rattle.dj_instructions.specs.declared.kinds.BadKind.TheVariants as kind
 use Rattle.dj_instructions.specs.Instructions.{Instruction, Instructions}
 use Rattle.dj_instructions.specs.Listing.{IsListing, HasBadInstruction}
 use Rattle.dj_instructions.proofs.ListingIsOne.{one_listing, listing_has_no_fault, one_bad}
@@ -24,7 +22,7 @@ use Rattle.dj_code.specs.declared.method_code.Handler.{Handler}
 use Rattle.dj_code.specs.CodeContent as layouts
 use Rattle.dj_code.specs.MethodCode.{Code}
 use Rattle.dj_code.specs.Targets.{IsLeast, JumpsRight, AllJumpRight, JumpsWrong, StartsWrong, LeadsRight, RangesRight, handler_of}
-use Rattle.dj_code.specs.ReadCode.{HasContent, PassesChecks, BreaksCheck, jump, handler, range, tables_of, HasHead, SpellsCode, FirstCodeFault, layout, instruction, check, frame}
+use Rattle.dj_code.specs.ReadCode.{HasContent, PassesChecks, BreaksCheck, jump, handler, range, tables_of, SpellsCode, FirstCodeFault, layout, instruction, check, frame}
 use Rattle.dj_code.proofs.ContentIsExact.{exact-content}
 
 one_content : (method : MethodOf) (a b : CodeContent) → HasContent method a → HasContent method b → a ≡ b

@@ -1,5 +1,5 @@
 -- Why the code of a method isn't read, and what is answered.
-use Rattle.std.proofs.Common.{◌≡◌, ℕ, List, Some, Result, Ok, Err, sym, ap, subst, ◌∙◌, inl, inr}
+use Rattle.std.proofs.Common.{◌≡◌, ℕ, List, Some, Result, Ok, Err, sym, subst, ◌∙◌, inl, inr}
 use Rattle.dj_layout.specs.Whole.{IsWhole}
 use Rattle.dj_pool.specs.declared.entry.Entry.{Entry}
 use Rattle.dj_class.specs.Described.{MethodOf, ClassOf}
@@ -28,9 +28,9 @@ module _ (class : ClassOf) (method : MethodOf) where
   content_stops bytes (fault.Memory error) body reads = tt
   content_stops bytes (fault.BadCode pc bad) body (is, at, none) =
       rw (is, at) (layout (λ content has.
-          let bodies : Some has.bytes ≡ Some bytes = sym has.body ∙ body in
-          let same : has.bytes ≡ bytes = cc in
-          none content (subst (λ (t : List ℕ). IsWhole layouts.content t content) same has.laid_out)))
+      let bodies : Some has.bytes ≡ Some bytes = sym has.body ∙ body in
+      let same : has.bytes ≡ bytes = cc in
+      none content (subst (λ (t : List ℕ). IsWhole layouts.content t content) same has.laid_out)))
 
   -- the instructions aren't right
   pub checked_stops : (content : CodeContent) (why : CodeFault) → HasContent method content → ReadsChecked class.pool content (Err why) → IsCodeFault class method why

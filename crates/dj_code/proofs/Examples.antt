@@ -2,7 +2,6 @@
 use Rattle.std.proofs.Common.{◌≡◌, ◌<◌, ◌≤◌, ℕ, zero, suc, List, [], ◌∷◌, length, slice_index_or, Some, refl, ap, arith}
 use Rattle.std.proofs.lemmas.Bool.{false≢true}
 use Rattle.std.proofs.lemmas.List.Elements.{All-cons, All-nil}
-use Rattle.dj_names.specs.declared.members.Constant.TheVariants as constant
 use Rattle.dj_pool.specs.declared.entry.Entry.{Entry}
 use Rattle.dj_instructions.specs.declared.kinds.Kind.TheVariants as kind
 use Rattle.dj_instructions.specs.declared.kinds.BadKind.TheVariants as bad

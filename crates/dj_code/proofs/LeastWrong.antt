@@ -61,6 +61,7 @@ module _ {X : Type 0} (start : X → ℕ) (Right : X → Type 0) (xs : List X) (
         wrong = so_far.wrong;
         least = each_more (λ (y : X). (Right y → ⊥) → min pc (start x) ≤ start y) (λ k d less other. rw e (so_far.least k d less other)) (λ _. omega arith);
       }
+
       new : start x < pc → IsLeastAmong start Right xs (i + 1) (min pc (start x))
       new lt = let e : min pc (start x) ≡ start x = omega arith in record {
         place = i;
@@ -69,6 +70,7 @@ module _ {X : Type 0} (start : X → ℕ) (Right : X → Type 0) (xs : List X) (
         wrong = λ d. rw (is d) wrong;
         least = each_more (λ (y : X). (Right y → ⊥) → min pc (start x) ≤ start y) (λ k d less other. let before = so_far.least k d less other in omega arith) (λ _. omega arith);
       }
+
       pick : (b : Bool) → ltb (start x) pc ≡ b → IsLeastAmong start Right xs (i + 1) (min pc (start x))
       pick true is_less = new (ltb-true (start x) pc is_less)
       pick false isnt_less = old (not_less (start x) pc isnt_less)

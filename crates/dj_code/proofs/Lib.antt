@@ -1,6 +1,5 @@
 pub mod ContentLayout
 pub mod ContentIsExact
-pub mod CodeLemmas
 pub mod LeastWrong
 pub mod TargetLists
 pub mod Bounds

@@ -1,5 +1,5 @@
 -- What the functions that read code promise each other.
-use Rattle.std.specs.Prelude.{◌≡◌, ◌⊎◌, ℕ, ◌≤◌, min, List, length, Option, Some, None, Result, Ok, Err, ⊤}
+use Rattle.std.specs.Prelude.{◌≡◌, ◌⊎◌, ℕ, min, List, Option, Some, None, Result, Ok, Err, ⊤}
 use Rattle.dj_layout.specs.declared.fault.Fault.{Fault}
 use Rattle.dj_layout.specs.Whole.{IsWhole}
 use Rattle.dj_pool.specs.declared.entry.Entry.{Entry}

@@ -5,6 +5,3 @@ pub mod Targets
 pub mod ReadCode
 -- What the crate keeps to itself.
 pub mod Checks
--- Straight code, until those above read all of it.
-pub mod Instructions
-pub mod Opcodes

@@ -1,5 +1,5 @@
 -- The code of a method as plain data (JVMS 4.7.3).
-use Rattle.std.specs.Prelude.{ℕ, List, map, Bool, Option}
+use Rattle.std.specs.Prelude.{ℕ, List, map, Bool}
 use Rattle.dj_names.specs.Headers.{Name}
 use Rattle.dj_names.specs.Types.{Descriptor, view_descriptor}
 use Rattle.dj_instructions.specs.Instructions.{Instructions, view_instructions}

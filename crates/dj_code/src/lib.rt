@@ -3,14 +3,11 @@
 //! The layers above use `read_code`, which answers the code exactly where the content of a Code attribute is one and else its first fault, and `copy` of each type.
 #![tactic(auto)]
 
-mod code;
 mod content;
 mod fault;
 mod method_code;
-mod opcodes;
 mod ranges;
 mod reading;
-pub mod straight;
 mod targets;
 
 pub use content::{CodeContent, RawHandler, read_content};

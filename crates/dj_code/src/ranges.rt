@@ -24,10 +24,7 @@ fn leads_right(instructions: &[(u32, Instruction)], handler: &RawHandler) -> boo
 }
 
 /// The least start among the entries whose handler is no instruction.
-pub fn wrong_target(
-    instructions: &[(u32, Instruction)],
-    handlers: &[RawHandler],
-) -> Option<u32>
+pub fn wrong_target(instructions: &[(u32, Instruction)], handlers: &[RawHandler]) -> Option<u32>
     requires rising { IsRising (view_instructions instructions.now) }
     ensures least { MatchOption result (All (LeadsRight (view_instructions instructions.now)) handlers.now) (IsLeast (StartsWrong (LeadsRight (view_instructions instructions.now)) handlers.now)) }
 {

@@ -112,7 +112,13 @@ fn frames_of(
     requires short { length content.now.code ≤ 65535 }
     ensures given { ReadsGiven class.now.pool (view_instructions instructions.now) (entry_values class.now.this_class (view_method method.now)) (tables_of class.now.pool content.now) result }
 {
-    match read_frames(alloc, class, method, instructions, content.attributes.as_slice()) {
+    match read_frames(
+        alloc,
+        class,
+        method,
+        instructions,
+        content.attributes.as_slice(),
+    ) {
         Ok(frames) => Ok(frames),
         Err(Stop::Fault(fault)) => Err(CodeFault::BadCode {
             pc: fault.offset as u32,

@@ -1,14 +1,13 @@
 -- Worked frames: entries of methods, kinds of frames, and tables by hand (JVMS 4.7.4, 4.10.1.6).
-use Rattle.std.proofs.Common.{◌≡◌, ℕ, List, [], ◌∷◌, Some, None, true, false, codes, refl}
-use Rattle.dj_names.specs.Headers.{Name}
+use Rattle.std.proofs.Common.{◌≡◌, ℕ, List, [], ◌∷◌, None, true, false, codes, refl}
 use Rattle.dj_names.specs.Assignable.{object_name}
 use Rattle.dj_names.specs.Types as type
 use Rattle.dj_class.specs.Described.{MethodOf}
 use Rattle.dj_layout.specs.Parts.{number}
 use Rattle.dj_frames.specs.declared.form.Count.TheVariants as count
 use Rattle.dj_frames.specs.declared.form.Change.TheVariants as change
-use Rattle.dj_frames.specs.Frames.{Tag, Top, Int, Long, Null, UnbornThis, Object, Frame, frame_of, entry_values, entry_frame}
-use Rattle.dj_frames.specs.StackMap.{RawFrame, Item, near, far, form_of, is_kind, frames_from, last_offset, count_behind, spell_frame}
+use Rattle.dj_frames.specs.Frames.{Tag, Top, Int, Long, Null, UnbornThis, Object, frame_of, entry_values, entry_frame}
+use Rattle.dj_frames.specs.StackMap.{RawFrame, Item, near, far, form_of, is_kind, frames_from, last_offset, spell_frame}
 
 abbrev method : ℕ → List ℕ → List type.JType → MethodOf
 method flags name parameters = record { flags = flags; name = name; descriptor = type.Method parameters None; thrown = []; code = None }

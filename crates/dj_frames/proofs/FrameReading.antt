@@ -1,5 +1,5 @@
 -- A frame as it is written, from its parts.
-use Rattle.std.proofs.Common.{◌≡◌, ℕ, List, [], refl, sym, inl, inr}
+use Rattle.std.proofs.Common.{◌≡◌, ℕ, List, [], refl, inl, inr}
 use Rattle.std.specs.List.{AllZip}
 use Rattle.std.proofs.lemmas.List.Elements.{All-nil}
 use Rattle.dj_layout.specs.declared.fault.Stop.{Stop}
@@ -15,7 +15,7 @@ use Rattle.dj_frames.specs.declared.form.Count.{Count}
 use Rattle.dj_frames.specs.declared.form.Count.TheVariants as count
 use Rattle.dj_frames.specs.declared.form.Form.{Form}
 use Rattle.dj_frames.specs.Frames.{Tag}
-use Rattle.dj_frames.specs.StackMap.{RawTag, RawFrame, Item, raw_tag, spell_frame, IsTagOf, IsItemOf, u1, is_kind, form_of, delta, many, tag, frame_with}
+use Rattle.dj_frames.specs.StackMap.{RawTag, RawFrame, raw_tag, spell_frame, IsTagOf, IsItemOf, u1, is_kind, form_of, delta, many, tag, frame_with}
 
 -- no items
 pub none_as : {K A B : Type 0} (item : Layout K A) (Means : A → B → Type 0) (bytes : List ℕ) → SpellsSome (times 0 item) (AllZip Means) bytes [] bytes

@@ -1,5 +1,5 @@
 -- The halves of the slots of a tree.
-use Rattle.std.proofs.Common.{◌≡◌, ◌≢◌, ℕ, zero, suc, ◌+◌, ◌-◌, ◌^◌, ◌<◌, ◌≤◌, List, [], ◌∷◌, ◌++◌, length, replicate, set, take, Option, Some, refl, sym, ap, ◌∙◌, subst, arith}
+use Rattle.std.proofs.Common.{◌≡◌, ◌≢◌, ℕ, zero, suc, ◌+◌, ◌-◌, ◌^◌, ◌<◌, ◌≤◌, List, [], ◌∷◌, ◌++◌, length, replicate, set, take, Some, refl, sym, ap, ◌∙◌, subst, arith}
 use Rattle.std.specs.Prelude.{slice_get}
 use Rattle.std.proofs.Math.Nat.{pow-suc}
 use Rattle.std.proofs.lemmas.Nat.{pow_pos}
@@ -78,6 +78,7 @@ set_root d slot tag tree is within = subst (λ n. replicate (2 ^ n) tag ≡ set 
     one (x ∷ []) zero long within = refl
     one (x ∷ y ∷ xs) slot long within = absurd (omega arith)
     one (x ∷ []) (suc slot) long within = absurd (omega arith)
+
     root : (tree : Tree) (slot : ℕ) → slot < 1 → tag ∷ [] ≡ set (tags 0 tree) slot tag
     root tree slot within = one (tags 0 tree) slot (length-tags 0 tree) within
 

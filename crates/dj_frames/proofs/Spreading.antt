@@ -1,14 +1,13 @@
 -- Values of locals and the slots that they take.
-use Rattle.std.proofs.Common.{◌≡◌, ℕ, zero, suc, ◌+◌, ◌-◌, ◌<◌, ◌≤◌, Bool, true, false, not, cond, eqb, ltb, ◌||◌, List, [], ◌∷◌, ◌++◌, length, map, take, Option, Some, None, is_some, refl, sym, ap, ◌∙◌, arith, length-append}
+use Rattle.std.proofs.Common.{◌≡◌, ℕ, zero, suc, ◌+◌, ◌-◌, ◌<◌, ◌≤◌, Bool, true, false, not, cond, eqb, ltb, ◌||◌, List, [], ◌∷◌, ◌++◌, length, take, Option, Some, None, is_some, refl, sym, ap, ◌∙◌, arith, length-append}
 use Rattle.std.specs.List.{flat_map, prefix_len, position, list_any}
-use Rattle.std.proofs.lemmas.Bool.{ltb-true, lt-ltb, false≢true}
+use Rattle.std.proofs.lemmas.Bool.{lt-ltb}
 use Rattle.std.proofs.lemmas.Bool.Decides.{nat_tests}
-use Rattle.std.proofs.lemmas.List.{take-map, take_at, length-map, append-nil, map-append, take-append-le}
+use Rattle.std.proofs.lemmas.List.{take-map, take_at, length-map, append-nil, map-append}
 use Rattle.std.proofs.lemmas.List.Folds.{prefix_len-append}
 use Rattle.std.proofs.lemmas.List.Sums.{prefix_len-le-length}
 use Rattle.std.proofs.lemmas.Grind.{flat_map-append}
 use Rattle.dj_frames.specs.declared.tag.Tag as declared
-use Rattle.dj_frames.specs.declared.frame.Frame as code_frame
 use Rattle.dj_frames.specs.Frames.{Tag, Frame, view_tag, view_tags, slots_of, is_unborn_this, frame_of}
 use Rattle.dj_frames.specs.Locals.{IsFront}
 
@@ -89,6 +88,7 @@ front_taken {A = A} xs now n front le =
     length_taken zero ys le = refl
     length_taken (suc k) [] le = absurd (omega arith)
     length_taken (suc k) (y ∷ ys) le = ap suc (length_taken k ys (omega arith))
+
     take_less : (k m : ℕ) (ys : List A) → k ≤ m → take k (take m ys) ≡ take k ys
     take_less zero m ys le = refl
     take_less (suc k) zero ys le = absurd (omega arith)

@@ -1,5 +1,5 @@
 -- The StackMapTables of a method have one list of frames, or one fault, and never both.
-use Rattle.std.proofs.Common.{◌≡◌, ℕ, ◌-◌, List, [], ◌∷◌, length, Option, Some, None, Result, Ok, Err, refl, sym, ap, subst, ◌∙◌, inl, inr, arith}
+use Rattle.std.proofs.Common.{◌≡◌, ℕ, List, [], ◌∷◌, length, Option, Some, None, Result, Ok, Err, refl, sym, ap, subst, ◌∙◌, inl, inr, arith}
 use Rattle.std.specs.List.{AllZip}
 use Rattle.dj_layout.specs.declared.fault.Fault.{Fault}
 use Rattle.dj_layout.specs.declared.fault.Stop.{Stop}
@@ -19,8 +19,8 @@ use Rattle.dj_frames.specs.declared.form.Count.{Count}
 use Rattle.dj_frames.specs.declared.form.Count.TheVariants as count
 use Rattle.dj_frames.proofs.FrameReading.{spelled_alike}
 use Rattle.dj_frames.specs.declared.frame.Frame as code_frame
-use Rattle.dj_frames.specs.Frames.{Tag, Object, Unborn, Frame, view_frames}
-use Rattle.dj_frames.specs.StackMap.{RawTag, RawFrame, Item, u1, u2, raw_tag, many, delta, form_of, tag, frame_with, IsTagOf, plain, object, unborn, plain_tag, IsItemOf, Follows, last_offset, told_at, frame_behind, spell_frame, table, frames_from, HasFrames, BreaksAt, AreFrames, BreaksFrames, broken, second, ReadsFrames}
+use Rattle.dj_frames.specs.Frames.{Tag, Object, Frame, view_frames}
+use Rattle.dj_frames.specs.StackMap.{RawTag, RawFrame, Item, u2, raw_tag, many, delta, form_of, tag, frame_with, IsTagOf, plain, object, unborn, plain_tag, IsItemOf, last_offset, told_at, frame_behind, spell_frame, table, frames_from, HasFrames, BreaksAt, AreFrames, BreaksFrames, broken, second, ReadsFrames}
 
 exact-u2 : IsExact u2
 exact-u2 = exact-number 2 kind.Frame

@@ -1,5 +1,5 @@
 -- Reading a StackMapTable: one frame behind the others.
-use Rattle.std.proofs.Common.{◌≡◌, ◌≢◌, ◌⊎◌, ℕ, ◌+◌, ◌-◌, ◌<◌, ◌≤◌, ◌^◌, ◌==◌, List, [], ◌∷◌, ◌++◌, length, map, take, Ok, Err, Option, Some, None, IsSome, Bool, false, nat_eq, refl, sym, ap, subst, ◌∙◌, arith, inl, inr, length-append, append_assoc}
+use Rattle.std.proofs.Common.{◌≡◌, ℕ, ◌+◌, ◌-◌, ◌<◌, ◌≤◌, ◌==◌, List, [], ◌∷◌, ◌++◌, length, take, Ok, Err, Option, Some, None, false, nat_eq, refl, sym, ap, subst, ◌∙◌, arith, inl, inr, length-append}
 use Rattle.std.specs.Prelude.{MatchOption}
 use Rattle.std.specs.List.{AllZip}
 use Rattle.std.proofs.lemmas.List.{take-map, length-map, append-nil, length-take}
@@ -10,12 +10,11 @@ use Rattle.dj_layout.specs.declared.fault.Stop.{Stop}
 use Rattle.dj_layout.specs.declared.fault.Stop.TheVariants as stop
 use Rattle.dj_layout.specs.Layout.{Layout, Spells, SpellsSome, Stops, fault_of}
 use Rattle.dj_layout.specs.Passes.{asked, sequence, HaltsOrIsnt}
-use Rattle.dj_layout.specs.Whole.{IsWhole}
 use Rattle.dj_layout.proofs.PartsAreTotal.{together}
 use Rattle.dj_pool.specs.declared.entry.Entry.{Entry}
 use Rattle.dj_instructions.specs.declared.kinds.BadKind.{BadKind}
 use Rattle.dj_instructions.specs.declared.kinds.BadKind.TheVariants as kind
-use Rattle.dj_instructions.specs.Instructions.{Instructions, instruction_at}
+use Rattle.dj_instructions.specs.Instructions.{Instructions}
 use Rattle.dj_frames.specs.declared.tag.Tag as declared
 use Rattle.dj_frames.specs.declared.form.Change.{Change}
 use Rattle.dj_frames.specs.declared.form.Change.TheVariants as change
@@ -23,7 +22,7 @@ use Rattle.dj_frames.specs.declared.frame.Frame as code_frame
 use Rattle.dj_frames.specs.declared.written.Written.{Written}
 use Rattle.dj_frames.specs.declared.follow.Listed.{Listed}
 use Rattle.dj_frames.specs.Frames.{Tag, Frame, view_tag, view_tags, view_frames, frame_of}
-use Rattle.dj_frames.specs.StackMap.{RawTag, RawFrame, Item, IsTagOf, IsItemOf, form_of, u2, tag, frame_with, changed, chopped, count_changed, count_behind, least_behind, last_offset, frames_from, Follows, told_at, frame_behind, spell_frame, table, BreaksAt, ReadsFrames, broken, second}
+use Rattle.dj_frames.specs.StackMap.{RawFrame, Item, IsTagOf, IsItemOf, form_of, u2, tag, frame_with, changed, count_changed, count_behind, least_behind, last_offset, frames_from, Follows, told_at, frame_behind, spell_frame, table, ReadsFrames, broken, second}
 use Rattle.dj_frames.specs.Reading.{view_written, CanFollow, IsBehind, locals_behind, IsListedTo, ReadsTable}
 use Rattle.dj_frames.proofs.Turns.{same_length}
 

@@ -1,5 +1,5 @@
 -- What the functions that read a StackMapTable promise each other.
-use Rattle.std.specs.Prelude.{◌≡◌, ℕ, ◌+◌, ◌<◌, ◌≤◌, ◌^◌, List, [], ◌∷◌, ◌++◌, length, slice_index_or, Some, IsSome, Result, Ok, Err, ⊤}
+use Rattle.std.specs.Prelude.{◌≡◌, ℕ, ◌+◌, ◌≤◌, ◌^◌, List, [], ◌∷◌, ◌++◌, length, IsSome, Result, Ok, Err, ⊤}
 use Rattle.std.specs.List.{AllZip}
 use Rattle.dj_layout.specs.declared.fault.Stop.{Stop}
 use Rattle.dj_layout.specs.declared.fault.Stop.TheVariants as stop
@@ -7,12 +7,11 @@ use Rattle.dj_layout.specs.Whole.{IsWhole}
 use Rattle.dj_pool.specs.declared.entry.Entry.{Entry}
 use Rattle.dj_instructions.specs.declared.kinds.BadKind.{BadKind}
 use Rattle.dj_instructions.specs.declared.kinds.BadKind.TheVariants as kind
-use Rattle.dj_instructions.specs.declared.instruction.Instruction as declared
-use Rattle.dj_instructions.specs.Instructions.{Instruction, Instructions, New, view_instruction, view_instructions, instruction_at}
+use Rattle.dj_instructions.specs.Instructions.{Instruction, Instructions, New, instruction_at}
 use Rattle.dj_frames.specs.declared.written.Written.{Written}
 use Rattle.dj_frames.specs.declared.follow.Listed.{Listed}
 use Rattle.dj_frames.specs.Frames.{Tag, view_tags, view_frames, frame_of}
-use Rattle.dj_frames.specs.StackMap.{RawFrame, Item, IsItemOf, form_of, changed, chopped, frames_from, count_behind, least_behind, table, BreaksAt}
+use Rattle.dj_frames.specs.StackMap.{RawFrame, Item, IsItemOf, form_of, changed, chopped, frames_from, least_behind, table, BreaksAt}
 
 -- a frame as the code reads it, seen as plain data
 abbrev pub view_written : Written → Item

@@ -47,11 +47,7 @@ fn receiver(alloc: Global, class: &ClassName, method: &Method) -> Result<Locals,
 }
 
 /// These locals, and those of parameters of these types behind them.
-fn with_parameters(
-    alloc: Global,
-    locals: Locals,
-    kinds: &[JType],
-) -> Result<Locals, AllocError>
+fn with_parameters(alloc: Global, locals: Locals, kinds: &[JType]) -> Result<Locals, AllocError>
     ensures more { IfOk result (λ now. view_tags now ≡ view_tags locals ++ map tag_of (view_types kinds.now)) }
 {
     let mut locals = locals;
@@ -63,11 +59,7 @@ fn with_parameters(
 }
 
 /// What the locals hold as a method of a class begins.
-pub fn entry_locals(
-    alloc: Global,
-    class: &ClassName,
-    method: &Method,
-) -> Result<Locals, AllocError>
+pub fn entry_locals(alloc: Global, class: &ClassName, method: &Method) -> Result<Locals, AllocError>
     ensures entry { IfOk result (λ locals. view_tags locals ≡ entry_values class.now (view_method method.now)) }
 {
     let locals = receiver(alloc, class, method)?;

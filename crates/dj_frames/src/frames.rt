@@ -33,10 +33,7 @@ fn is_table(pool: &Pool, name: u16) -> bool
 }
 
 /// The content of the first table, and the attributes behind it.
-fn first_table<'a>(
-    pool: &Pool,
-    attributes: &'a [Attribute],
-) -> Option<(&'a [u8], &'a [Attribute])>
+fn first_table<'a>(pool: &Pool, attributes: &'a [Attribute]) -> Option<(&'a [u8], &'a [Attribute])>
     ensures first { MatchOption result (contents pool.now (codes "StackMapTable") attributes.now ≡ []) (λ x. contents pool.now (codes "StackMapTable") attributes.now ≡ x.0.now ∷ contents pool.now (codes "StackMapTable") x.1.now) }
 {
     for (place, attribute) in attributes.iter().enumerate() {

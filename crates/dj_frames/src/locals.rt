@@ -70,13 +70,7 @@ fn unborn_before(unborn: Option<usize>, count: usize) -> Option<usize>
     ensures first { (values front : List spec_tag.Tag) → unborn ≡ position is_unborn_this (view_tags values) → IsFront front values → count ≡ length front → result ≡ position is_unborn_this (view_tags front) }
 {
     match unborn {
-        Some(at) => {
-            if at < count {
-                Some(at)
-            } else {
-                None
-            }
-        }
+        Some(at) => { if at < count { Some(at) } else { None } }
         None => None,
     }
 }

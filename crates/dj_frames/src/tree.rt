@@ -74,7 +74,13 @@ fn halves(alloc: Global, tree: &Tree) -> Result<(Rc<Tree>, Rc<Tree>), AllocError
 }
 
 /// The tree with a tag put into a slot.
-pub fn set(alloc: Global, tree: &Tree, depth: u32, slot: usize, tag: Tag) -> Result<Tree, AllocError>
+pub fn set(
+    alloc: Global,
+    tree: &Tree,
+    depth: u32,
+    slot: usize,
+    tag: Tag,
+) -> Result<Tree, AllocError>
     requires small { depth ≤ 64 }
     requires within { slot < 2 ^ depth }
     ensures set { IfOk result (λ after. tags depth after ≡ slice_set (tags depth tree.now) slot tag) }

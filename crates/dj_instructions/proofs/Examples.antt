@@ -1,25 +1,22 @@
 -- The definitions of instructions on worked values.
-use Rattle.std.proofs.Common.{◌≡◌, ℕ, zero, suc, pos, negsuc, true, false, List, [], ◌∷◌, ◌++◌, length, Option, Some, None, refl, inl, inr, lit<}
-use Rattle.std.specs.Prelude.{codes, slice_get}
+use Rattle.std.proofs.Common.{◌≡◌, ℕ, zero, suc, pos, negsuc, false, List, [], ◌∷◌, Some, None, refl, inl, inr, lit<}
+use Rattle.std.specs.Prelude.{codes}
 use Rattle.std.specs.Int.{w16, cast_signed}
-use Rattle.dj_layout.specs.declared.fault.Fault.{Fault}
 use Rattle.dj_layout.specs.Parts.{number, run}
 use Rattle.dj_names.specs.declared.members.Constant.TheVariants as constant
-use Rattle.dj_names.specs.Types.{JType, Int, Class, Array, Descriptor, Method}
+use Rattle.dj_names.specs.Types.{JType, Int, Class, Array, Method}
 use Rattle.dj_pool.specs.declared.entry.Entry.{Entry}
 use Rattle.dj_pool.specs.declared.entry.Entry.TheVariants as entry
-use Rattle.dj_instructions.specs.declared.kinds.BadKind.{BadKind}
 use Rattle.dj_instructions.specs.declared.kinds.BadKind.TheVariants.{Opcode, CutOff}
 use Rattle.dj_instructions.specs.declared.kinds.Kind.TheVariants as kind
 use Rattle.dj_instructions.specs.declared.kinds.Calc.TheVariants as calc
-use Rattle.dj_instructions.specs.declared.kinds.Test.TheVariants as test
-use Rattle.dj_instructions.specs.Instructions.{Instruction, Push, Load, Calc, Iinc, IfZero, Goto, TableSwitch, LookupSwitch, InvokeVirtual, InvokeSpecial, MultiNewArray}
+use Rattle.dj_instructions.specs.Instructions.{Push, Load, Calc, Iinc, Goto, TableSwitch, LookupSwitch, InvokeSpecial, MultiNewArray}
 use Rattle.dj_instructions.specs.RawInstructions as raw
 use Rattle.dj_instructions.specs.RawInstructions.{Raw, Table, Lookup, form_of, raw_instruction, spell_raw, padding, count_keys, can_be_wide, opcode}
 use Rattle.dj_instructions.specs.PoolNames.{Reference}
 use Rattle.dj_instructions.specs.AloneOpcodes.{alone}
 use Rattle.dj_instructions.specs.Jumps.{jump, target, table_switch, lookup_switch}
-use Rattle.dj_instructions.specs.PoolMeanings.{Known, word_constant, long_constant, call_of, sized_array, array_of, new_object}
+use Rattle.dj_instructions.specs.PoolMeanings.{Known, call_of, sized_array, array_of, new_object}
 use Rattle.dj_instructions.specs.Meanings.{meaning_of, with_byte, with_short}
 use Rattle.dj_instructions.specs.Listing.{HasBadInstruction}
 

@@ -1,8 +1,8 @@
 -- Reading a listing, instruction by instruction.
-use Rattle.std.proofs.Common.{◌≡◌, ◌≢◌, ℕ, ◌+◌, ◌-◌, ◌<◌, ◌≤◌, ◌==◌, Result, Ok, Err, IfOk, Bool, true, false, List, [], ◌∷◌, ◌++◌, length, IsTrue, IsFalse, map, refl, sym, ap, ◌∙◌, append_assoc, arith, length-append, sum_by, ne_eqb}
+use Rattle.std.proofs.Common.{◌≡◌, ◌≢◌, ℕ, ◌+◌, ◌-◌, ◌<◌, ◌≤◌, ◌==◌, Result, Ok, Err, IfOk, Bool, true, false, List, [], ◌∷◌, ◌++◌, length, refl, sym, ap, ◌∙◌, arith, length-append, ne_eqb}
 use Rattle.std.specs.List.{flat_map}
 use Rattle.std.proofs.lemmas.List.{append-nil, map_push}
-use Rattle.std.proofs.lemmas.List.Sums.{sum_by-cons, sum_by_push}
+use Rattle.std.proofs.lemmas.List.Sums.{sum_by-cons}
 use Rattle.std.proofs.lemmas.Bool.{false≢true}
 use Rattle.std.proofs.lemmas.Bool.Decides.{nat_tests}
 use Rattle.dj_layout.specs.declared.fault.Fault.{Fault}
@@ -16,8 +16,8 @@ use Rattle.dj_pool.specs.declared.entry.Entry.{Entry}
 use Rattle.dj_instructions.specs.declared.kinds.BadKind.{BadKind}
 use Rattle.dj_instructions.specs.declared.instruction.Instruction as declared
 use Rattle.dj_instructions.specs.Instructions.{Instruction, Instructions, IsRising, IsRisingFrom, view_instruction, view_instructions}
-use Rattle.dj_instructions.specs.RawInstructions.{Raw, raw_instruction, spell_raw, size, opcode_of, form_of, behind, u1}
-use Rattle.dj_instructions.specs.Listing.{Means, size_of, lawful_instruction, listing, AreMeant, IsListing, HasBadInstruction, IsBad}
+use Rattle.dj_instructions.specs.RawInstructions.{Raw, spell_raw, size, opcode_of, form_of, behind, u1}
+use Rattle.dj_instructions.specs.Listing.{Means, size_of, lawful_instruction, AreMeant, IsListing, HasBadInstruction, IsBad}
 use Rattle.dj_instructions.specs.Listing.{IsRead as IsAnswered}
 use Rattle.dj_instructions.proofs.RawIsExact.{spelled_alike}
 use Rattle.dj_instructions.proofs.ListingIsOne.{one_listing, listing_has_no_fault, one_bad}

@@ -1,5 +1,5 @@
 -- Reading an instruction: its opcode, and then what stands behind it.
-use Rattle.std.proofs.Common.{◌≡◌, ℕ, List, [], ◌++◌, Option, Some, None, Result, Ok, Err, append_assoc, refl, sym, ap, ◌∙◌, inl, inr}
+use Rattle.std.proofs.Common.{◌≡◌, ℕ, List, [], ◌++◌, Option, None, Result, Ok, Err, append_assoc, refl, sym, ap, inl, inr}
 use Rattle.std.proofs.lemmas.List.{append-nil}
 use Rattle.dj_layout.specs.declared.fault.Stop.{Stop}
 use Rattle.dj_layout.specs.declared.fault.Stop.TheVariants as stop

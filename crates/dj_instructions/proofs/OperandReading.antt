@@ -1,6 +1,6 @@
 -- Reading what stands behind opcodes.
 use Rattle.std.proofs.Common.{◌≡◌, ℕ, ◌==◌, ℤ, Bool, true, false, if◌then◌else◌, List, [], ◌++◌, Option, Some, append_assoc, refl, sym, ap, ◌∙◌}
-use Rattle.std.specs.Int.{w8, w16, w32, cast_signed, cast_unsigned}
+use Rattle.std.specs.Int.{w8, w16, cast_signed, cast_unsigned}
 use Rattle.std.proofs.Math.Facts.{sfits_to_z, sfits_widen, Fits-of_lt}
 use Rattle.std.proofs.lemmas.Int.{of_z-to_z, to_z-of_z}
 use Rattle.std.proofs.lemmas.List.{append-nil}
@@ -10,9 +10,8 @@ use Rattle.dj_pool.specs.declared.entry.Entry.{Entry}
 use Rattle.dj_instructions.specs.declared.kinds.BadKind.{BadKind}
 use Rattle.dj_instructions.specs.declared.kinds.BadKind.TheVariants.{Opcode}
 use Rattle.dj_instructions.specs.declared.form.Form.{Form}
-use Rattle.dj_instructions.specs.declared.form.Form.TheVariants as form
-use Rattle.dj_instructions.specs.Instructions.{Instruction, Goto, Iinc}
-use Rattle.dj_instructions.specs.RawInstructions.{Plain, form_of, can_be_wide, widened, one, two, behind, u1, u2, u4}
+use Rattle.dj_instructions.specs.Instructions.{Instruction, Iinc}
+use Rattle.dj_instructions.specs.RawInstructions.{Plain, form_of, can_be_wide, widened, one, two, u1, u2}
 use Rattle.dj_instructions.specs.PoolNames.{Finds}
 use Rattle.dj_instructions.specs.PoolMeanings.{IsMeant}
 use Rattle.dj_instructions.specs.Meanings.{plain, widened_load, wide}

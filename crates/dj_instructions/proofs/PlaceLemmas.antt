@@ -1,5 +1,5 @@
 -- What a search by halves finds among instructions whose pcs rise.
-use Rattle.std.proofs.Common.{◌≡◌, ◌≢◌, ℕ, zero, suc, ◌+◌, ◌<◌, ◌≤◌, ◌==◌, Bool, true, false, List, [], ◌∷◌, length, map, Option, Some, None, Result, Ok, Err, IfOk, IfErr, refl, sym, subst, arith, ne_eqb, inl, inr}
+use Rattle.std.proofs.Common.{◌≡◌, ◌≢◌, ℕ, zero, suc, ◌+◌, ◌<◌, ◌≤◌, ◌==◌, true, false, List, [], ◌∷◌, length, Some, None, Result, Ok, Err, IfOk, IfErr, refl, sym, subst, arith, ne_eqb, inl, inr}
 use Rattle.std.specs.Prelude.{slice_index_or}
 use Rattle.std.specs.List.Sorted.{IsSearchInRange, IsBinarySearchResult, IsNonDecreasingBy}
 use Rattle.std.specs.Ordering.{nat_cmp, ordering_index}
@@ -7,7 +7,7 @@ use Rattle.std.proofs.lemmas.Cmp.{ranked}
 use Rattle.std.proofs.lemmas.Bool.{cases_lt}
 use Rattle.std.proofs.lemmas.Bool.Decides.{nat_tests}
 use Rattle.dj_instructions.specs.declared.instruction.Instruction as declared
-use Rattle.dj_instructions.specs.Instructions.{Instruction, Instructions, IsRising, IsRisingFrom, instruction_at, view_instruction, view_instructions}
+use Rattle.dj_instructions.specs.Instructions.{IsRising, IsRisingFrom, instruction_at, view_instruction, view_instructions}
 use Rattle.dj_instructions.specs.Places.{IsPlaceOf, IsNoPlace}
 
 abbrev Listed : Type 0

@@ -1,18 +1,17 @@
 -- Looking up what the entries of a pool name.
-use Rattle.std.proofs.Common.{◌≡◌, ℕ, ◌+◌, ◌≤◌, nat_le, Bool, true, false, List, Option, Some, None, refl, sym, ap, subst, ◌∙◌, arith}
+use Rattle.std.proofs.Common.{◌≡◌, ℕ, ◌≤◌, nat_le, Bool, false, List, Option, Some, None, refl, sym, ap, ◌∙◌, arith}
 use Rattle.std.specs.Prelude.{IsSomeAnd}
 use Rattle.std.proofs.lemmas.Bool.Decides.{nat_tests}
 use Rattle.dj_names.specs.declared.types.JType as code
 use Rattle.dj_names.specs.declared.descriptor.Descriptor as code_descriptor
 use Rattle.dj_names.specs.declared.descriptor.Descriptor.TheVariants as variants
-use Rattle.dj_names.specs.Types.{JType, Boolean, Byte, Char, Short, Int, Long, Float, Double, Class, Array, Descriptor, Field, Method, view_type, view_descriptor}
-use Rattle.dj_names.specs.ClassNames.{IsClassName}
+use Rattle.dj_names.specs.Types.{JType, Boolean, Byte, Char, Short, Int, Long, Float, Double, Class, Array, Descriptor, Field, view_type, view_descriptor}
 use Rattle.dj_names.specs.Descriptors.{dimensions, SpellsDescriptor}
 use Rattle.dj_names.proofs.DescriptorLemmas.{one_spelled}
 use Rattle.dj_pool.specs.declared.entry.Entry.{Entry}
 use Rattle.dj_pool.specs.PoolFormat.{text_at}
 use Rattle.dj_pool.specs.PoolTable.{IsReadOf}
-use Rattle.dj_instructions.specs.PoolNames.{Finds, IsTypeNamed, NamesType, NamesDescriptor, Member, NamesMember, Reference, NamesReference}
+use Rattle.dj_instructions.specs.PoolNames.{Finds, IsTypeNamed}
 use Rattle.dj_instructions.specs.PoolParts.{NamesArray, NamesClass}
 
 -- ---- descriptors

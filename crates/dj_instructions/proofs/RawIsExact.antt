@@ -1,6 +1,5 @@
 -- An instruction reads in one way, and so does a listing.
-use Rattle.std.proofs.Common.{◌≡◌, ℕ, List, ◌∷◌, ◌==◌, length, refl}
-use Rattle.std.specs.Int.{w32, cast_signed}
+use Rattle.std.proofs.Common.{◌≡◌, ℕ, List, ◌==◌, length, refl}
 use Rattle.dj_layout.specs.Layout.{Layout}
 use Rattle.dj_layout.specs.Exact.{IsExact}
 use Rattle.dj_layout.proofs.PartsAreExact.{exact-number, exact-run, exact-exactly, exact-headed, exact-times, exact-tested, exact-choice}
@@ -11,7 +10,7 @@ use Rattle.dj_instructions.specs.declared.kinds.BadKind.TheVariants.{CutOff}
 use Rattle.dj_instructions.specs.declared.form.Form.{Form}
 use Rattle.dj_instructions.specs.declared.form.Form.TheVariants as form
 use Rattle.dj_instructions.specs.RawInstructions.{Raw, Plain, TableSwitch, LookupSwitch, Wide, Table, Lookup, Widened, form_of, opcode_of, first_of, second_of, table_of, lookup_of, widened_of, u1, u2, u4, pair, table, lookup, widened, one, two, behind, raw_instruction, spell_raw}
-use Rattle.dj_instructions.specs.Listing.{size_of, lawful_instruction, listing}
+use Rattle.dj_instructions.specs.Listing.{size_of, listing}
 
 exact-one : (op : ℕ) (part : Layout BadKind ℕ) → IsExact part → IsExact (one op part)
 exact-one op part exact = exact-headed first_of part _ exact (λ x. exact-exactly (Plain op x 0))

@@ -1,5 +1,5 @@
 -- What the functions that tell the meaning of an instruction promise each other.
-use Rattle.std.specs.Prelude.{ℕ, List, Option, option_map, Result, Ok, Err, ⊤}
+use Rattle.std.specs.Prelude.{List, Option, option_map, Result, Ok, Err, ⊤}
 use Rattle.std.specs.declared.alloc.AllocError.{AllocError}
 use Rattle.dj_pool.specs.declared.entry.Entry.{Entry}
 use Rattle.dj_instructions.specs.declared.instruction.Instruction as declared

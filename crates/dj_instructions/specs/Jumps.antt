@@ -30,6 +30,7 @@ table_with pc other low high targets =
     if int_lt (cast_signed w32 high) (cast_signed w32 low) then None
     else Some (TableSwitch (cast_signed w32 low) targets (target pc (cast_signed w32 other)))
 
+-- a `tableswitch` by its operands
 abbrev pub table_switch : ℕ → Table → Option Instruction
 table_switch pc t = table_with pc t.other t.low t.high (map (λ offset. target pc (cast_signed w32 offset)) t.offsets)
 
@@ -43,5 +44,6 @@ do_rise (one ∷ next ∷ rest) = int_lt one.0 next.0 && do_rise (next ∷ rest)
 abbrev pub lookup_with : ℕ → ℕ → List (ℤ × ℕ) → Option Instruction
 lookup_with pc other cases = if do_rise cases then Some (LookupSwitch cases (target pc (cast_signed w32 other))) else None
 
+-- a `lookupswitch` by its operands
 abbrev pub lookup_switch : ℕ → Lookup → Option Instruction
 lookup_switch pc l = lookup_with pc l.other (map (λ p. (cast_signed w32 p.0, target pc (cast_signed w32 p.1))) l.pairs)

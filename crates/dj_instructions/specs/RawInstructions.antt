@@ -1,7 +1,6 @@
 -- Instructions as they are spelled: an opcode, and the numbers behind it as they stand (JVMS 6.5).
 use Rattle.std.specs.Prelude.{ℕ, ◌+◌, ◌-◌, ◌%◌, ◌==◌, Bool, true, false, ◌||◌, if◌then◌else◌, ℤ, int_lt, unsigned_abs, ◌-ℤ◌, List, [], length}
 use Rattle.std.specs.Int.{w32, cast_signed, is_in_range}
-
 use Rattle.dj_layout.specs.Layout.{Layout}
 use Rattle.dj_layout.specs.Parts.{number, run, exactly, headed, times, tested, choice}
 use Rattle.dj_layout.specs.Passes.{told_in_front}
@@ -87,6 +86,7 @@ pub data Raw : Type 0 where
   LookupSwitch : ℕ → Lookup → Raw
   Wide : ℕ → Widened → Raw
 
+-- the opcode of an instruction; of `wide`, `wide` itself
 abbrev pub opcode_of : Raw → ℕ
 opcode_of (Plain op x y) = op
 opcode_of (TableSwitch op t) = op
@@ -130,12 +130,15 @@ widened_of (Wide op w) = w
 
 -- ---- the layout; what is cut off is told at the instruction
 
+-- a number of one byte
 abbrev pub u1 : Layout BadKind ℕ
 u1 = number 1 CutOff
 
+-- a number of two bytes
 abbrev pub u2 : Layout BadKind ℕ
 u2 = number 2 CutOff
 
+-- a number of four bytes
 abbrev pub u4 : Layout BadKind ℕ
 u4 = number 4 CutOff
 

@@ -96,10 +96,7 @@ fn calculation(place: u8) -> Option<Instruction>
 fn bit_calculation(place: u8) -> Option<Instruction>
     ensures calculation { option_map view_instruction result ≡ calculation bit_calcs (place / 2) (place % 2) }
 {
-    Some(Instruction::Calc(
-        bit_calc_at(place / 2)?,
-        kind_at(place % 2)?,
-    ))
+    Some(Instruction::Calc(bit_calc_at(place / 2)?, kind_at(place % 2)?))
 }
 
 /// `pop` to `swap`.

@@ -15,11 +15,7 @@ use dj_names::Constant;
 use std::alloc::{AllocError, Global};
 
 /// The type that a Class entry names, as a constant.
-fn class_constant(
-    alloc: Global,
-    pool: &Pool,
-    index: u16,
-) -> Result<Option<Instruction>, AllocError>
+fn class_constant(alloc: Global, pool: &Pool, index: u16) -> Result<Option<Instruction>, AllocError>
     ensures meant { IsAnswer pool.now (OfType index (λ type. Some (PushClass type))) result }
 {
     match type_of_class(alloc, pool, index)? {
@@ -29,11 +25,7 @@ fn class_constant(
 }
 
 /// A method type, by the index of its descriptor.
-fn method_type(
-    alloc: Global,
-    pool: &Pool,
-    index: u16,
-) -> Result<Option<Instruction>, AllocError>
+fn method_type(alloc: Global, pool: &Pool, index: u16) -> Result<Option<Instruction>, AllocError>
     ensures meant { IsAnswer pool.now (OfDescriptor index (λ d. Some (PushMethodType d))) result }
 {
     match descriptor_at(alloc, pool, index)? {
@@ -64,11 +56,7 @@ fn method_handle(
 }
 
 /// A text, by the index of its units.
-fn text_constant(
-    alloc: Global,
-    pool: &Pool,
-    index: u16,
-) -> Result<Option<Instruction>, AllocError>
+fn text_constant(alloc: Global, pool: &Pool, index: u16) -> Result<Option<Instruction>, AllocError>
     ensures meant { IsAnswer pool.now (Known (option_map (λ text. Push (constant.Text text)) (text_at pool.now index))) result }
 {
     match pool.text_at(index) {

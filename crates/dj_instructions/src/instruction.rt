@@ -114,7 +114,9 @@ impl Instruction {
                 name,
                 descriptor,
             } => copy_handle(alloc, *kind, *interface, owner, name, descriptor),
-            Instruction::PushMethodType(descriptor) => descriptor.copy(alloc).map(Instruction::PushMethodType),
+            Instruction::PushMethodType(descriptor) => descriptor
+                .copy(alloc)
+                .map(Instruction::PushMethodType),
             Instruction::Load(kind, slot) => Ok(Instruction::Load(*kind, *slot)),
             Instruction::Store(kind, slot) => Ok(Instruction::Store(*kind, *slot)),
             Instruction::ArrayLoad(element) => Ok(Instruction::ArrayLoad(*element)),
@@ -150,10 +152,16 @@ impl Instruction {
             Instruction::PutStatic(field) => field.copy(alloc).map(Instruction::PutStatic),
             Instruction::GetField(field) => field.copy(alloc).map(Instruction::GetField),
             Instruction::PutField(field) => field.copy(alloc).map(Instruction::PutField),
-            Instruction::InvokeVirtual(method) => method.copy(alloc).map(Instruction::InvokeVirtual),
-            Instruction::InvokeSpecial(method) => method.copy(alloc).map(Instruction::InvokeSpecial),
+            Instruction::InvokeVirtual(method) => method
+                .copy(alloc)
+                .map(Instruction::InvokeVirtual),
+            Instruction::InvokeSpecial(method) => method
+                .copy(alloc)
+                .map(Instruction::InvokeSpecial),
             Instruction::InvokeStatic(method) => method.copy(alloc).map(Instruction::InvokeStatic),
-            Instruction::InvokeInterface(method) => method.copy(alloc).map(Instruction::InvokeInterface),
+            Instruction::InvokeInterface(method) => method
+                .copy(alloc)
+                .map(Instruction::InvokeInterface),
             Instruction::InvokeDynamic {
                 bootstrap,
                 name,
@@ -227,11 +235,7 @@ fn copy_table(
 }
 
 /// A `lookupswitch` with equal parts.
-fn copy_lookup(
-    alloc: Global,
-    cases: &[(i32, u32)],
-    other: u32,
-) -> Result<Instruction, AllocError>
+fn copy_lookup(alloc: Global, cases: &[(i32, u32)], other: u32) -> Result<Instruction, AllocError>
     ensures equal { IfOk result (λ copy. copy ≡ Instruction.LookupSwitch cases.now other) }
 {
     Ok(Instruction::LookupSwitch {

@@ -1,9 +1,10 @@
 //! What stands behind opcodes, read as what the instruction means (JVMS 6.5).
 
-ghost use Rattle.std.specs.Prelude.{◌≡◌};
+ghost use Rattle.std.specs.Prelude.{◌≡◌, ℕ, List};
 ghost use Rattle.std.specs.Option.{option_map};
 ghost use Rattle.dj_layout.specs.Layout.{Reads, ReadsAs};
 ghost use Rattle.dj_layout.specs.Parts.{tested};
+ghost use Rattle.dj_pool.specs.declared.entry.Entry.{Entry};
 ghost use Rattle.dj_instructions.specs.declared.form.Form.TheVariants as form;
 ghost use Rattle.dj_instructions.specs.declared.kinds.BadKind.TheVariants.{Opcode};
 ghost use Rattle.dj_instructions.specs.Instructions.{view_instruction};
@@ -63,20 +64,19 @@ pub fn widened_at(bytes: &[u8], end: usize) -> Result<(Option<Instruction>, &[u8
 pub fn byte_at<'a>(
     alloc: Global,
     pool: &Pool,
-    pc: u32,
     opcode: u8,
     bytes: &'a [u8],
     end: usize,
 ) -> Result<(Option<Instruction>, &'a [u8]), Stop<BadKind>>
     requires form { form_of opcode ≡ form.Byte }
-    ensures reads { ReadsAs (behind pc opcode form.Byte) (HasAnswer pool.now pc) (λ x. (option_map view_instruction x.0, x.1.now)) end bytes.now result }
+    ensures reads { (pc : ℕ) → ReadsAs (behind pc opcode form.Byte) (HasAnswer pool.now pc) (λ x. (option_map view_instruction x.0, x.1.now)) end bytes.now result }
 {
     let (x, rest) = u8_at(bytes, end, BadKind::CutOff)?;
     let found = with_byte(alloc, pool, opcode, x)?;
     Ok((found, rest))
 }
 
-/// Two bytes behind an opcode.
+/// Two bytes behind an opcode at this pc.
 pub fn short_at<'a>(
     alloc: Global,
     pool: &Pool,
@@ -93,16 +93,13 @@ pub fn short_at<'a>(
     Ok((found, rest))
 }
 
-/// Four bytes behind `goto_w`.
-pub fn word_at<'a>(
-    pool: &Pool,
+/// What stands behind `goto_w` at this pc.
+pub fn word_at(
     pc: u32,
-    opcode: u8,
-    bytes: &'a [u8],
+    bytes: &[u8],
     end: usize,
-) -> Result<(Option<Instruction>, &'a [u8]), Stop<BadKind>>
-    requires form { form_of opcode ≡ form.Word }
-    ensures reads { ReadsAs (behind pc opcode form.Word) (HasAnswer pool.now pc) (λ x. (option_map view_instruction x.0, x.1.now)) end bytes.now result }
+) -> Result<(Option<Instruction>, &[u8]), Stop<BadKind>>
+    ensures reads { (pool : List Entry) (op : ℕ) → form_of op ≡ form.Word → ReadsAs (behind pc op form.Word) (HasAnswer pool pc) (λ x. (option_map view_instruction x.0, x.1.now)) end bytes.now result }
 {
     let (offset, rest) = u32_at(bytes, end, BadKind::CutOff)?;
     let to = target(pc, offset.cast_signed());
@@ -110,15 +107,8 @@ pub fn word_at<'a>(
 }
 
 /// What stands behind `iinc`.
-pub fn step_at<'a>(
-    pool: &Pool,
-    pc: u32,
-    opcode: u8,
-    bytes: &'a [u8],
-    end: usize,
-) -> Result<(Option<Instruction>, &'a [u8]), Stop<BadKind>>
-    requires form { form_of opcode ≡ form.Step }
-    ensures reads { ReadsAs (behind pc opcode form.Step) (HasAnswer pool.now pc) (λ x. (option_map view_instruction x.0, x.1.now)) end bytes.now result }
+pub fn step_at(bytes: &[u8], end: usize) -> Result<(Option<Instruction>, &[u8]), Stop<BadKind>>
+    ensures reads { (pool : List Entry) (pc op : ℕ) → form_of op ≡ form.Step → ReadsAs (behind pc op form.Step) (HasAnswer pool pc) (λ x. (option_map view_instruction x.0, x.1.now)) end bytes.now result }
 {
     let (slot, rest) = u8_at(bytes, end, BadKind::CutOff)?;
     let (by, rest) = u8_at(rest, end, BadKind::CutOff)?;
@@ -130,13 +120,12 @@ pub fn step_at<'a>(
 pub fn counted_at<'a>(
     alloc: Global,
     pool: &Pool,
-    pc: u32,
     opcode: u8,
     bytes: &'a [u8],
     end: usize,
 ) -> Result<(Option<Instruction>, &'a [u8]), Stop<BadKind>>
     requires form { form_of opcode ≡ form.Counted }
-    ensures reads { ReadsAs (behind pc opcode form.Counted) (HasAnswer pool.now pc) (λ x. (option_map view_instruction x.0, x.1.now)) end bytes.now result }
+    ensures reads { (pc : ℕ) → ReadsAs (behind pc opcode form.Counted) (HasAnswer pool.now pc) (λ x. (option_map view_instruction x.0, x.1.now)) end bytes.now result }
 {
     let (index, rest) = u16_at(bytes, end, BadKind::CutOff)?;
     let (_count, rest) = u16_at(rest, end, BadKind::CutOff)?;
@@ -148,13 +137,10 @@ pub fn counted_at<'a>(
 pub fn sizes_at<'a>(
     alloc: Global,
     pool: &Pool,
-    pc: u32,
-    opcode: u8,
     bytes: &'a [u8],
     end: usize,
 ) -> Result<(Option<Instruction>, &'a [u8]), Stop<BadKind>>
-    requires form { form_of opcode ≡ form.Sizes }
-    ensures reads { ReadsAs (behind pc opcode form.Sizes) (HasAnswer pool.now pc) (λ x. (option_map view_instruction x.0, x.1.now)) end bytes.now result }
+    ensures reads { (pc op : ℕ) → form_of op ≡ form.Sizes → ReadsAs (behind pc op form.Sizes) (HasAnswer pool.now pc) (λ x. (option_map view_instruction x.0, x.1.now)) end bytes.now result }
 {
     let (index, rest) = u16_at(bytes, end, BadKind::CutOff)?;
     let (sizes, rest) = u8_at(rest, end, BadKind::CutOff)?;

@@ -80,11 +80,7 @@ fn type_named(alloc: Global, pool: &Pool, index: u16) -> Result<Option<JType>, A
 }
 
 /// The type that the Class entry at an index names, which shares its parts with the pool.
-pub fn type_of_class(
-    alloc: Global,
-    pool: &Pool,
-    index: u16,
-) -> Result<Option<JType>, AllocError>
+pub fn type_of_class(alloc: Global, pool: &Pool, index: u16) -> Result<Option<JType>, AllocError>
     ensures named { IfOk result (λ found. Finds (NamesType pool.now index) (option_map view_type found)) }
 {
     match class_name_index(pool, index) {
@@ -153,11 +149,7 @@ fn member_with(
 }
 
 /// The name and the descriptor that the NameAndType entry at an index leads to.
-pub fn member_at(
-    alloc: Global,
-    pool: &Pool,
-    index: u16,
-) -> Result<Option<Member>, AllocError>
+pub fn member_at(alloc: Global, pool: &Pool, index: u16) -> Result<Option<Member>, AllocError>
     ensures named { IfOk result (λ found. Finds (NamesMember pool.now index) (option_map view_member found)) }
 {
     let Some(entry) = pool.entry_at(index) else {
@@ -213,11 +205,7 @@ fn reference_with(
 }
 
 /// What the Fieldref, Methodref or InterfaceMethodref entry at an index leads to.
-pub fn reference_at(
-    alloc: Global,
-    pool: &Pool,
-    index: u16,
-) -> Result<Option<Reference>, AllocError>
+pub fn reference_at(alloc: Global, pool: &Pool, index: u16) -> Result<Option<Reference>, AllocError>
     ensures named { IfOk result (λ found. Finds (NamesReference pool.now index) (option_map view_reference found)) }
 {
     let Some(entry) = pool.entry_at(index) else {

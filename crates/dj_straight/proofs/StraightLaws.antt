@@ -4,14 +4,16 @@ use Rattle.std.proofs.Math.Seq.{take-suc}
 use Rattle.std.proofs.lemmas.List.{take-append-drop}
 use Rattle.std.specs.List.{All}
 use Rattle.std.proofs.lemmas.List.{map-append}
-use Rattle.std.proofs.lemmas.List.Elements.{All-head, All-tail, All-push}
+use Rattle.std.proofs.lemmas.List.Elements.{All-nil, All-head, All-tail, All-push}
 use Rattle.dj_syntax.specs.WellFormed.{IsWellFormedExp}
 use Rattle.dj_instructions.specs.declared.instruction.Instruction as declared
 use Rattle.dj_instructions.specs.Instructions.{Instruction, Instructions, view_instruction, view_instructions}
+use Rattle.dj_instructions.specs.declared.kinds.Kind.TheVariants as kind
+use Rattle.dj_instructions.specs.Instructions as instruction
 use Rattle.dj_straight.specs.declared.straight.Node.{Node}
 use Rattle.dj_straight.specs.declared.straight.Rebuilt.{Rebuilt}
 use Rattle.dj_straight.specs.declared.straight.Rebuilt.TheVariants.{Tree, Breaks}
-use Rattle.dj_straight.specs.Straight.{Formula, postfix, HasStraightOpcode, IsStraightCode, IsBegun, BreaksAt, breaks, IsRebuilt, IfTree}
+use Rattle.dj_straight.specs.Straight.{Formula, postfix, HasStraightOpcode, IsStraightCode, IsBegun, BreaksAt, breaks, ends, IsRebuilt, IfTree}
 use Rattle.dj_straight.specs.Rebuilding.{AreNodes, advanced, then_on, built, WentOn, IsClosed, IsReturn, Builds, Blocks, IsBlockedAt, viewed}
 use Rattle.dj_straight.proofs.StraightBuilt.{built-append, built_formula, built_stack, built_within}
 
@@ -89,8 +91,10 @@ module _ (parameters max_stack : ℕ) (bytes : List ℕ) where
             absurd (cc ran)
       ]
     where
+      ran : built parameters max_stack (postfix formula) [] ≡ Some (formula ∷ [])
       ran = built_formula parameters max_stack formula [] straight.straight.slots straight.straight.levels (omega (arith, straight.straight.stack))
 
+      parts : listing before ++ first.1 ∷ listing behind ≡ postfix formula ++ instruction.Return (Some kind.Int) ∷ []
       parts = sym (listing-append before (first ∷ behind)) ∙ straight.straight.form
 
   pub breaks_at : (before : Instructions) (first : ℕ × Instruction) (behind : Instructions) (stack : List Formula) → Builds parameters max_stack bytes before stack → Blocks parameters max_stack bytes stack first
@@ -178,3 +182,13 @@ module _ (parameters max_stack : ℕ) (bytes : List ℕ) (code : List (ℕ × de
       let step = went_on (advanced parameters max_stack (view_instruction item.1) stack) nodes went in
       let more : view_instructions (take (place + 1) code) ≡ view_instructions (take place code) ++ viewed item ∷ [] = ap view_instructions (take_more code place item inside is) ∙ viewed-append (take place code) (item ∷ []) in
       (step.0, rw more (builds_more parameters max_stack bytes (view_instructions (take place code)) (viewed item) stack step.0 builds straight step.1), step.2)
+
+-- no instruction is only begun
+pub empty_breaks : (parameters max_stack : ℕ) (bytes : List ℕ) (code : List (ℕ × declared.Instruction)) → length code ≡ 0 → BreaksAt parameters max_stack bytes (view_instructions code) (length bytes)
+empty_breaks parameters max_stack bytes [] none =
+    ends (begun_of parameters max_stack bytes [] [] (record { opcodes = All-nil (λ (at : ℕ × Instruction). HasStraightOpcode bytes at.0); ran = refl }))
+empty_breaks parameters max_stack bytes (first ∷ code) none = absurd (omega arith)
+
+-- instructions before a last one
+pub viewed_last : (code before : List (ℕ × declared.Instruction)) (last : ℕ × declared.Instruction) → code ≡ before ++ last ∷ [] → view_instructions code ≡ view_instructions before ++ viewed last ∷ []
+viewed_last code before last is = ap view_instructions is ∙ viewed-append before (last ∷ [])

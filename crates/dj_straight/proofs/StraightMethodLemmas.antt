@@ -1,5 +1,5 @@
 -- What is found of a method, from what its parts are.
-use Rattle.std.proofs.Common.{◌≡◌, ℕ, zero, suc, List, [], ◌∷◌, length, replicate, Some, None, Result, Ok, Err, refl, sym, ap, ◌∙◌, subst, inl, inr}
+use Rattle.std.proofs.Common.{◌≡◌, ◌<◌, ◌^◌, ℕ, zero, suc, Bool, IsTrue, ◌↔◌, arith, List, [], ◌∷◌, length, replicate, Some, None, Result, Ok, Err, refl, sym, ap, ◌∙◌, subst, inl, inr}
 use Rattle.std.specs.Prelude.{IfOk}
 use Rattle.std.specs.List.{AllByRecursion}
 use Rattle.std.specs.declared.alloc.AllocError.{AllocError}
@@ -8,11 +8,14 @@ use Rattle.dj_layout.proofs.Laws.{whole_unique}
 use Rattle.dj_names.specs.declared.types.JType as code_types
 use Rattle.dj_names.specs.Types.{JType, Int, Descriptor, Field, Method, parameters_of, view_type, view_types}
 use Rattle.dj_class.specs.Described.{ClassOf, MethodOf}
+use Rattle.dj_frames.specs.declared.frame.Frame as code_frame
+use Rattle.dj_frames.specs.Frames.{view_frames}
 use Rattle.dj_code.specs.declared.content.CodeContent.{CodeContent}
 use Rattle.dj_code.specs.CodeContent as layouts
 use Rattle.dj_code.specs.MethodCode.{Code}
 use Rattle.dj_code.specs.ReadCode.{HasContent, SpellsCode}
 use Rattle.dj_code.proofs.ContentIsExact.{exact-content}
+use Rattle.dj_code.proofs.Bounds.{code_is_short}
 use Rattle.dj_straight.specs.declared.straight_method.Judged.{Judged}
 use Rattle.dj_straight.specs.declared.straight_method.Judged.TheVariants.{Straight, NotYet}
 use Rattle.dj_straight.specs.Ints.{AnswersInt}
@@ -105,3 +108,12 @@ module _ (class : ClassOf) (method : MethodOf) (parameters : ℕ) (code : Code) 
 -- the bytes of spelled code are there
 pub has_bytes : (class : ClassOf) (method : MethodOf) (code : Code) → SpellsCode class method code → ¬ IsSpelledBy method None
 has_bytes class method code spelled none = none spelled.content spelled.has
+
+-- and they are few
+pub bytes_are_short : (method : MethodOf) (bytes : List ℕ) → IsSpelledBy method (Some bytes) → length bytes < 2 ^ 32
+bytes_are_short method bytes (content, has, is) = omega (arith, code_is_short has.bytes content has.laid_out, ap length is)
+
+-- the frames of the code and those seen
+pub no_frames_are : (frames : List (ℕ × code_frame.Frame)) (empty : Bool) → IsTrue empty ↔ (frames ≡ []) → IsTrue empty ↔ (view_frames frames ≡ [])
+no_frames_are [] empty tells = (λ yes. refl, λ none. tells.1 refl)
+no_frames_are (first ∷ frames) empty tells = (λ yes. absurd (cc (tells.0 yes)), λ none. absurd (cc))

@@ -221,11 +221,11 @@ pub fn straight_body(
     ensures ok { IfOk result (IsRebuilt parameters max_stack code.now (view_instructions instructions.now)) }
     ensures fits { IfOk result (λ rebuilt. IfTree rebuilt IsWellFormedExp) }
 {
-    let Some((last, before)) = instructions.split_last() else {
-        return Ok(Rebuilt::Breaks(code.len() as u32));
-    };
-    match begin(alloc, before, code, max_stack, parameters)? {
-        Begun::Stack(stack) => finish(alloc, stack, last, code, max_stack, parameters),
-        Begun::Breaks(pc) => Ok(Rebuilt::Breaks(pc)),
+    match instructions.split_last() {
+        Some((last, before)) => match begin(alloc, before, code, max_stack, parameters)? {
+            Begun::Stack(stack) => finish(alloc, stack, last, code, max_stack, parameters),
+            Begun::Breaks(pc) => Ok(Rebuilt::Breaks(pc)),
+        },
+        None => Ok(Rebuilt::Breaks(code.len() as u32)),
     }
 }

@@ -57,12 +57,19 @@ fn has_plain_head(class: &ClassFile, method: &Method) -> bool
         && answers_int(&method.descriptor)
 }
 
+/// Whether code has no frames.
+fn has_no_frames(code: &Code) -> bool
+    ensures none { IsTrue result ↔ ((view_code code.now).frames ≡ []) }
+{
+    code.frames.is_empty()
+}
+
 /// Whether code has neither handlers nor frames, and a local for each parameter.
 fn is_plain(code: &Code, parameters: usize) -> bool
     ensures plain { IsTrue result ↔ IsPlainCode parameters (view_code code.now) }
 {
     code.handlers.is_empty()
-        && code.frames.is_empty()
+        && has_no_frames(code)
         && parameters <= usize::from(code.max_locals)
 }
 

@@ -96,7 +96,12 @@ fn a_loop_is_read(rt: HostRuntime) {
 }
 
 /// Whether the second instruction is a switch with these targets, the last for what is no key.
-fn has_targets(alloc: Global, code: &[u8], wanted: &[u32], last: u32) -> Result<bool, Stop<BadKind>> {
+fn has_targets(
+    alloc: Global,
+    code: &[u8],
+    wanted: &[u32],
+    last: u32,
+) -> Result<bool, Stop<BadKind>> {
     let pool = pool(alloc)?;
     let found = read_instructions(alloc, &pool, code)?;
     Ok(match instruction_at(found.as_slice(), 1) {
@@ -104,7 +109,12 @@ fn has_targets(alloc: Global, code: &[u8], wanted: &[u32], last: u32) -> Result<
             targets.as_slice() == wanted && *other == last
         }
         Some(Instruction::LookupSwitch { cases, other }) => {
-            cases.as_slice().iter().map(|case| case.1).eq(wanted.iter().copied()) && *other == last
+            cases
+                .as_slice()
+                .iter()
+                .map(|case| case.1)
+                .eq(wanted.iter().copied())
+                && *other == last
         }
         _ => false,
     })
@@ -157,9 +167,11 @@ fn has_its_types(alloc: Global) -> Result<bool, AllocError> {
     let array = type_of_class(alloc, &pool, 4)?;
     let class = type_of_class(alloc, &pool, 6)?;
     let none = type_of_class(alloc, &pool, 3)?;
-    Ok(matches!(array, Some(JType::Array(_)))
-        && matches!(class, Some(JType::Class(_)))
-        && none.is_none())
+    Ok(
+        matches!(array, Some(JType::Array(_)))
+            && matches!(class, Some(JType::Class(_)))
+            && none.is_none(),
+    )
 }
 
 /// How many of the pcs up to 14 are starts of instructions of `spin`.

@@ -1,4 +1,4 @@
-use Rattle.std.proofs.Common.{ℕ, ℤ, ◌<◌, length, arith, refl}
+use Rattle.std.proofs.Common.{arith, refl}
 use Rattle.std.proofs.lemmas.Bool.{false≢true}
 use Rattle.dj_instructions.specs.Instructions.{view_instructions}
 use Rattle.dj_code.specs.Targets.{IsStart}
@@ -14,6 +14,6 @@ returns-then-not-is_start c =
     record {
       exact = (
         λ e. absurd (false≢true e),
-        λ all. absurd (cases_wrong (IsStart (view_instructions c.args.instructions.now)) c.args.cases.now c.loop-case.case-index _ c.loop-case-test.true (λ right. false≢true (c.if-not-is_start.ensures.exact.1 right)) all),
+        λ all. absurd (cases_wrong (IsStart (view_instructions c.args.instructions.now)) c.args.cases.now c.loop-case.case-index _ c.loop-case-test.true (λ right. false≢true (c.if-not-is_start.ensures.start.1 right)) all),
       );
     }

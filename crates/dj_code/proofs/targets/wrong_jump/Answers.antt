@@ -1,6 +1,6 @@
-use Rattle.std.proofs.Common.{ℕ, arith, length}
+use Rattle.std.proofs.Common.{ℕ, arith}
 use Rattle.std.proofs.lemmas.List.{length-map}
-use Rattle.dj_instructions.specs.Instructions.{Instruction, view_instruction, view_instructions}
+use Rattle.dj_instructions.specs.Instructions.{Instruction, view_instructions}
 use Rattle.dj_code.specs.Targets.{JumpsRight}
 use Rattle.dj_code.proofs.LeastWrong.{step, least_of_all}
 use Rattle.dj_code.proofs.TargetLists.{viewed, viewed_at}

@@ -1,4 +1,4 @@
-use Rattle.std.proofs.Common.{[], ◌∷◌, ◌++◌, length, List}
+use Rattle.std.proofs.Common.{[], ◌∷◌, ◌++◌, length}
 use Rattle.dj_layout.specs.Passes.{asked}
 use Rattle.dj_instructions.specs.declared.kinds.BadKind.TheVariants as kind
 use Rattle.dj_instructions.specs.Instructions.{view_instructions}

@@ -1,6 +1,3 @@
-use Rattle.std.proofs.Common.{suc, ◌++◌, ap, ◌∙◌, sym}
-use Rattle.dj_frames.specs.declared.tree.Tree.TheVariants.{All}
-use Rattle.dj_frames.specs.SlotTree.{tags}
 use Rattle.dj_frames.proofs.Halves.{all_copied}
 use Rattle.dj_frames.proofs.tree.halves.Goals as goal
 

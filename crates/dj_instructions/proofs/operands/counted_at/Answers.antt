@@ -7,4 +7,4 @@ use Rattle.dj_instructions.proofs.operands.counted_at.Goals as goal
 
 pub returns : goal.returns
 returns c =
-    record { reads = two_read c.args.pool.now c.args.pc c.args.opcode Counted u2 u2 c.in_ok-index.index c.in_ok-_count._count c.args.bytes.now c.in_ok-index.rest.now c.in_ok-_count.rest.now (option_map view_instruction c.in_ok-found.found) c.requires.form c.in_ok-index.ensures.reads c.in_ok-_count.ensures.reads c.in_ok-found.ensures.meant }
+    record { reads = λ pc. two_read c.args.pool.now pc c.args.opcode Counted u2 u2 c.in_ok-index.index c.in_ok-_count._count c.args.bytes.now c.in_ok-index.rest.now c.in_ok-_count.rest.now (option_map view_instruction c.in_ok-found.found) c.requires.form c.in_ok-index.ensures.reads c.in_ok-_count.ensures.reads c.in_ok-found.ensures.meant }

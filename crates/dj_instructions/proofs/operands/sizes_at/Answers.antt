@@ -7,4 +7,4 @@ use Rattle.dj_instructions.proofs.operands.sizes_at.Goals as goal
 
 pub returns : goal.returns
 returns c =
-    record { reads = two_read c.args.pool.now c.args.pc c.args.opcode Sizes u2 u1 c.in_ok-index.index c.in_ok-sizes.sizes c.args.bytes.now c.in_ok-index.rest.now c.in_ok-sizes.rest.now (option_map view_instruction c.in_ok-found.found) c.requires.form c.in_ok-index.ensures.reads c.in_ok-sizes.ensures.reads c.in_ok-found.ensures.meant }
+    record { reads = λ pc op is. two_read c.args.pool.now pc op Sizes u2 u1 c.in_ok-index.index c.in_ok-sizes.sizes c.args.bytes.now c.in_ok-index.rest.now c.in_ok-sizes.rest.now (option_map view_instruction c.in_ok-found.found) is c.in_ok-index.ensures.reads c.in_ok-sizes.ensures.reads c.in_ok-found.ensures.meant }

@@ -10,6 +10,6 @@ pub returns : goal.returns
 returns c =
     let by = step_by c.in_ok-slot.rest.now c.in_ok-by.rest.now c.in_ok-by.by c.cast_signed.result c.from-2.result c.in_ok-by.ensures.reads c.cast_signed.ensures c.from-2.ensures in
     record {
-      reads = two_read c.args.pool.now c.args.pc c.args.opcode Step u1 u1 c.in_ok-slot.slot c.in_ok-by.by c.args.bytes.now c.in_ok-slot.rest.now c.in_ok-by.rest.now (Some (Iinc c.from.result (cast_signed w16 (cast_unsigned w16 c.from-2.result)))) c.requires.form c.in_ok-slot.ensures.reads c.in_ok-by.ensures.reads
+      reads = λ pool pc op is. two_read pool pc op Step u1 u1 c.in_ok-slot.slot c.in_ok-by.by c.args.bytes.now c.in_ok-slot.rest.now c.in_ok-by.rest.now (Some (Iinc c.from.result (cast_signed w16 (cast_unsigned w16 c.from-2.result)))) is c.in_ok-slot.ensures.reads c.in_ok-by.ensures.reads
           (rw (c.from.ensures, by) refl);
     }

@@ -11,5 +11,5 @@ pub returns : goal.returns
 returns c =
     let to = c.target-to.ensures.target ∙ ap (target c.args.pc) (kept c.args.bytes.now c.in_ok-offset.rest.now c.in_ok-offset.offset c.cast_signed.result c.in_ok-offset.ensures.reads c.cast_signed.ensures) in
     record {
-      reads = one_read c.args.pool.now c.args.pc c.args.opcode Word u4 c.in_ok-offset.offset c.args.bytes.now c.in_ok-offset.rest.now (Some (Goto c.target-to.result)) c.requires.form c.in_ok-offset.ensures.reads (ap (λ (t : ℕ). Some (Goto t)) (sym to));
+      reads = λ pool op is. one_read pool c.args.pc op Word u4 c.in_ok-offset.offset c.args.bytes.now c.in_ok-offset.rest.now (Some (Goto c.target-to.result)) is c.in_ok-offset.ensures.reads (ap (λ (t : ℕ). Some (Goto t)) (sym to));
     }

@@ -35,3 +35,18 @@ returns-in-Wide c =
       reads = rw (← c.in-Wide.ensures.form) (own_form c.args.pool.now c.args.pc widened widened_of (Wide c.args.opcode) wide (λ (x : Option declared.Instruction × Bor (List ℕ)). (option_map view_instruction x.0, x.1.now)) c.args.end c.args.bytes.now c.widened_at.result
           (λ w. refl) (λ w. known c.args.pool.now (wide w)) c.widened_at.ensures.reads);
     }
+
+pub returns-in-Byte : goal.returns-in-Byte
+returns-in-Byte c = record { reads = rw (← c.in-Byte.ensures.form) (c.byte_at.ensures.reads c.args.pc) }
+
+pub returns-in-Word : goal.returns-in-Word
+returns-in-Word c = record { reads = rw (← c.in-Word.ensures.form) (c.word_at.ensures.reads c.args.pool.now c.args.opcode (sym c.in-Word.ensures.form)) }
+
+pub returns-in-Step : goal.returns-in-Step
+returns-in-Step c = record { reads = rw (← c.in-Step.ensures.form) (c.step_at.ensures.reads c.args.pool.now c.args.pc c.args.opcode (sym c.in-Step.ensures.form)) }
+
+pub returns-in-Counted : goal.returns-in-Counted
+returns-in-Counted c = record { reads = rw (← c.in-Counted.ensures.form) (c.counted_at.ensures.reads c.args.pc) }
+
+pub returns-in-Sizes : goal.returns-in-Sizes
+returns-in-Sizes c = record { reads = rw (← c.in-Sizes.ensures.form) (c.sizes_at.ensures.reads c.args.pc c.args.opcode (sym c.in-Sizes.ensures.form)) }

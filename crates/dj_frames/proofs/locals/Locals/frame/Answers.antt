@@ -1,5 +1,4 @@
-use Rattle.std.proofs.Common.{ap, ◌∙◌, sym, refl}
-use Rattle.dj_frames.specs.Frames.{view_tags}
+use Rattle.std.proofs.Common.{refl}
 use Rattle.dj_frames.proofs.Spreading.{frame_is}
 use Rattle.dj_frames.proofs.locals.Locals.frame.Goals as goal
 

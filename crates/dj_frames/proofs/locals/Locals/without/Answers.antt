@@ -1,5 +1,3 @@
-use Rattle.std.proofs.Common.{◌≤◌, arith, sym}
-use Rattle.dj_frames.specs.Locals.{IsFront}
 use Rattle.dj_frames.proofs.Spreading.{front_taken}
 use Rattle.dj_frames.proofs.locals.Locals.without.Goals as goal
 

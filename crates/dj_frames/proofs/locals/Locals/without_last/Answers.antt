@@ -1,6 +1,4 @@
-use Rattle.std.proofs.Common.{refl, sym, ap, ◌∙◌}
-use Rattle.dj_frames.specs.Frames.{view_tags}
-use Rattle.dj_frames.proofs.Spreading.{spread_front, last_within}
+use Rattle.dj_frames.proofs.Spreading.{spread_front}
 use Rattle.dj_frames.proofs.locals.Locals.without_last.Goals as goal
 
 pub invariant_of-result : goal.invariant_of-result

@@ -1,4 +1,4 @@
-use Rattle.std.proofs.Common.{◌≡◌, ◌<◌, length, take, set, List, ap, ◌∙◌, arith}
+use Rattle.std.proofs.Common.{◌<◌, length, take, set, List, ap, ◌∙◌, arith}
 use Rattle.std.proofs.Math.Seq.{take-set-lt}
 use Rattle.dj_frames.specs.declared.tag.Tag.{Tag}
 use Rattle.dj_frames.specs.SlotTree.{tags}
