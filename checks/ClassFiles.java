@@ -2,7 +2,7 @@ import java.io.BufferedReader;
 import java.io.InputStreamReader;
 import java.io.PrintStream;
 
-/** Answers each line of hexadecimal bytes with what the JVM's own parser says of them as a class file. */
+/** Answers each line of hexadecimal bytes with what the JVM's own parser says of them as a class file; given a word, with what its verifier says too. */
 public final class ClassFiles extends ClassLoader {
     private ClassFiles() {
         super(ClassLoader.getPlatformClassLoader());
@@ -16,9 +16,12 @@ public final class ClassFiles extends ClassLoader {
         return bytes;
     }
 
-    private static String answer(byte[] bytes) {
+    private static String answer(byte[] bytes, boolean links) {
         try {
-            new ClassFiles().defineClass(null, bytes, 0, bytes.length);
+            Class<?> made = new ClassFiles().defineClass(null, bytes, 0, bytes.length);
+            if (links) {
+                made.getDeclaredMethods();
+            }
             return "whole";
         } catch (LinkageError | SecurityException fault) {
             return fault.getClass().getSimpleName() + " " + String.valueOf(fault.getMessage()).replaceAll("[^ -~]", "?");
@@ -29,7 +32,7 @@ public final class ClassFiles extends ClassLoader {
         BufferedReader in = new BufferedReader(new InputStreamReader(System.in, "US-ASCII"), 1 << 20);
         PrintStream out = new PrintStream(System.out, false, "US-ASCII");
         for (String line = in.readLine(); line != null; line = in.readLine()) {
-            out.println(answer(bytesOf(line)));
+            out.println(answer(bytesOf(line), words.length == 1));
         }
         out.flush();
     }
