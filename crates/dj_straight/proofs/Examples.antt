@@ -15,7 +15,7 @@ difference = (0, Load kind.Int 0) ∷ (1, Load kind.Int 1) ∷ (2, Calc calc.Sub
 
 difference_is_straight : IsStraightCode 2 2 (0x1a ∷ 0x1b ∷ 0x64 ∷ 0xac ∷ []) difference (Calculation Sub (Parameter 0) (Parameter 1))
 difference_is_straight = record {
-  opcodes = All-from_recursion (λ (at : ℕ × Instruction). HasStraightOpcode (0x1a ∷ 0x1b ∷ 0x64 ∷ 0xac ∷ []) at.0) difference (refl, refl, refl, refl, tt);
+  opcodes = All-from_recursion (λ (at : ℕ × Instruction). HasStraightOpcode (0x1a ∷ 0x1b ∷ 0x64 ∷ 0xac ∷ []) at.0) difference (refl, (refl, (refl, (refl, tt))));
   straight = record { form = refl; slots = (omega arith, omega arith); levels = omega arith; stack = omega arith };
 }
 

@@ -68,9 +68,7 @@ fn has_no_frames(code: &Code) -> bool
 fn is_plain(code: &Code, parameters: usize) -> bool
     ensures plain { IsTrue result ↔ IsPlainCode parameters (view_code code.now) }
 {
-    code.handlers.is_empty()
-        && has_no_frames(code)
-        && parameters <= usize::from(code.max_locals)
+    code.handlers.is_empty() && has_no_frames(code) && parameters <= usize::from(code.max_locals)
 }
 
 /// What is found of code, spelled by these bytes.
