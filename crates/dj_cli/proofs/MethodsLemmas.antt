@@ -5,11 +5,12 @@ use Rattle.std.proofs.lemmas.List.{get_or-map, length-map}
 use Rattle.dj_class.specs.Described.{ClassOf, MethodOf}
 use Rattle.dj_syntax.specs.Trees.{Exp, Body, MethodText}
 use Rattle.dj_syntax.specs.WellFormed.{IsWellFormedMethod}
-use Rattle.dj_straight.specs.StraightMethod.{IsStraightMethod, IsBodyOf}
+use Rattle.dj_instructions.specs.declared.kinds.BadKind.{BadKind}
+use Rattle.dj_straight.specs.StraightMethod.{IsStraightMethod, IsNotYet, IsBodyOf}
 use Rattle.dj_straight.proofs.StraightShows.{straight_methods_show}
 use Rattle.dj_unit.specs.ClassText.{method_text, printed_methods}
-use Rattle.dj_report.specs.Report.{shown_method}
-use Rattle.dj_cli.specs.Output.{Verdict, Prints, Bad, NotYet, PrintsMethod, IsVerdict, AreVerdicts, body_of, bodies_of, method_line, method_lines}
+use Rattle.dj_report.specs.Report.{shown_method, bad_tail, not_yet_tail}
+use Rattle.dj_cli.specs.Output.{Verdict, Prints, Bad, NotYet, PrintsMethod, IsBadMethod, IsVerdict, AreVerdicts, body_of, bodies_of, method_line, method_lines}
 use Rattle.dj_cli.specs.Methods.{AreJudged, IsLineOf, IsPrintOf}
 use Rattle.dj_cli.proofs.ClassTextLemmas.{method_well_formed}
 
@@ -103,6 +104,14 @@ module _ (class : ClassOf) where
         lines_are = ap (λ these. these ++ (shown_method class.this_class method.name method.descriptor ++ tail)) before.lines_are ∙ ap (λ these. method_lines class methods before.verdicts ++ these) (sym line.line_is) ∙ sym (lines-more [] methods before.verdicts method verdict before.judged);
         well_formed = before.well_formed;
       }
+
+  -- ---- the ends of lines
+
+  pub bad_line : (before : List MethodOf) (method : MethodOf) (kind : BadKind) (pc : ℕ) (tail : List ℕ) → IsBadMethod class method kind pc → tail ≡ bad_tail kind pc → IsLineOf class before method tail
+  bad_line before method kind pc tail bad is = record { verdict = Bad kind pc; is_verdict = bad; no_body = refl; line_is = rw is refl }
+
+  pub not_yet_line : (before : List MethodOf) (method : MethodOf) (pc : ℕ) (tail : List ℕ) → IsNotYet class before method pc → tail ≡ not_yet_tail pc → IsLineOf class before method tail
+  not_yet_line before method pc tail not_yet is = record { verdict = NotYet pc; is_verdict = not_yet; no_body = refl; line_is = rw is refl }
 
 -- a fact of each item, seen by a function, at one place
 pub all_at : {X Y : Type 0} (f : X → Y) (P : Y → Type 0) (items : List X) (i : ℕ) (item : X) → All P (map f items) → i < length items → item ≡ get_or items i item → P (f item)

@@ -7,8 +7,8 @@ use Rattle.dj_syntax.specs.Trees as trees
 use Rattle.dj_syntax.specs.Trees.{Exp, Body, MethodText, view_exp}
 use Rattle.dj_syntax.specs.WellFormed.{IsWellFormedExp, IsWellFormedMethod}
 use Rattle.dj_straight.specs.StraightMethod.{IsStraightMethod, IsNotYet, IsBodyOf}
-use Rattle.dj_cli.specs.declared.methods.Found.{Found}
-use Rattle.dj_cli.specs.declared.methods.Found.TheVariants as found
+use Rattle.dj_cli.specs.declared.methods.Finding.{Finding}
+use Rattle.dj_cli.specs.declared.methods.Finding.TheVariants as finding
 use Rattle.dj_cli.specs.declared.methods.Told.{Told}
 use Rattle.dj_cli.specs.declared.methods.Told.TheVariants as told
 use Rattle.dj_cli.specs.declared.methods.MethodLine.{MethodLine}
@@ -23,10 +23,10 @@ pub record IsTextOf (class : ClassOf) (method : MethodOf) (exp : Exp) (text : Me
   pub text_is : text ≡ method_text method body
 
 -- what is found of a method of a class, those before it given; an expression is well formed
-abbrev pub IsFound : ClassOf → List MethodOf → MethodOf → Found → Type 0
-IsFound class before method (found.Straight exp) = IsStraightMethod class before method (view_exp exp) × IsWellFormedExp (view_exp exp)
-IsFound class before method (found.Bad pc kind) = IsBadMethod class method kind pc
-IsFound class before method (found.NotYet pc) = IsNotYet class before method pc
+abbrev pub IsFound : ClassOf → List MethodOf → MethodOf → Finding → Type 0
+IsFound class before method (finding.Straight exp) = IsStraightMethod class before method (view_exp exp) × IsWellFormedExp (view_exp exp)
+IsFound class before method (finding.Bad pc kind) = IsBadMethod class method kind pc
+IsFound class before method (finding.NotYet pc) = IsNotYet class before method pc
 
 -- a verdict on a method that isn't printed, and the end of its line
 pub record IsLineOf (class : ClassOf) (before : List MethodOf) (method : MethodOf) (tail : List ℕ) : Type 0 where

@@ -7,11 +7,13 @@ ghost use Rattle.dj_class.specs.Views.{view_class, view_method};
 ghost use Rattle.dj_syntax.specs.Trees as trees;
 ghost use Rattle.dj_syntax.specs.Trees.{view_body, view_exp};
 ghost use Rattle.dj_unit.specs.ClassText.{method_text};
+ghost use Rattle.dj_code.specs.MethodCode.{view_code};
+ghost use Rattle.dj_code.specs.ReadCode.{SpellsCode};
 ghost use Rattle.dj_straight.specs.DeclaredMethods.{Holds};
 ghost use Rattle.dj_cli.specs.Methods.{AreJudged, IsFound, IsTextOf, IsToldOf, lines_bytes};
 
 use dj_class::{ClassFile, Method};
-use dj_code::{BadKind, CodeFault, read_code_of};
+use dj_code::{BadKind, Code, CodeFault, read_code_of};
 use dj_names::{Items, MethodHead, copy_names};
 use dj_report::{bad_tail, not_yet_tail};
 use dj_straight::{Declared, Judged, judge, returning_body};
@@ -37,7 +39,7 @@ pub struct Judgement<'a> {
 
 /// What is found of a method.
 #[derive(Drop)]
-enum Found {
+enum Finding {
     /// It returns this expression.
     Straight(Exp),
     /// Its code has this fault first, at this offset.
@@ -95,25 +97,40 @@ fn returning_text(
     method_text(alloc, method, body)
 }
 
+/// What is found of a method that has this code, where the table holds those before it; it is put into the table.
+fn find_spelled<'a>(
+    alloc: Global,
+    class: &ClassFile,
+    declared: &mut Declared<'a>,
+    method: &'a Method,
+    code: &Code,
+) -> Result<Finding, AllocError>
+    requires spelled { SpellsCode (view_class class.now) (view_method method.now) (view_code code.now) }
+    ensures found { IfOk result (λ found. (before : List MethodOf) → Holds declared.old before → IsFound (view_class class.now) before (view_method method.now) found) }
+    ensures declared { OnOk result ((before : List MethodOf) → Holds declared.old before → Holds declared.new (before ++ view_method method.now ∷ [])) }
+{
+    match judge(alloc, class, declared, method, code)? {
+        Judged::Straight(exp) => Ok(Finding::Straight(exp)),
+        Judged::NotYet(pc) => Ok(Finding::NotYet(pc)),
+    }
+}
+
 /// What is found of a method with code, where the table holds those before it; it is put into the table.
 fn find_coded<'a>(
     alloc: Global,
     class: &ClassFile,
     declared: &mut Declared<'a>,
     method: &'a Method,
-) -> Result<Found, AllocError>
+) -> Result<Finding, AllocError>
     requires coded { IsSome method.now.code }
     ensures found { IfOk result (λ found. (before : List MethodOf) → Holds declared.old before → IsFound (view_class class.now) before (view_method method.now) found) }
     ensures declared { OnOk result ((before : List MethodOf) → Holds declared.old before → Holds declared.new (before ++ view_method method.now ∷ [])) }
 {
     match read_code_of(alloc, class, method) {
-        Ok(code) => match judge(alloc, class, declared, method, &code)? {
-            Judged::Straight(exp) => Ok(Found::Straight(exp)),
-            Judged::NotYet(pc) => Ok(Found::NotYet(pc)),
-        },
+        Ok(code) => find_spelled(alloc, class, declared, method, &code),
         Err(CodeFault::BadCode { pc, kind }) => {
             declared.admit(method)?;
-            Ok(Found::Bad { pc, kind })
+            Ok(Finding::Bad { pc, kind })
         }
         Err(CodeFault::Memory(error)) => Err(error),
     }
@@ -125,30 +142,32 @@ fn find<'a>(
     class: &ClassFile,
     declared: &mut Declared<'a>,
     method: &'a Method,
-) -> Result<Found, AllocError>
+) -> Result<Finding, AllocError>
     ensures found { IfOk result (λ found. (before : List MethodOf) → Holds declared.old before → IsFound (view_class class.now) before (view_method method.now) found) }
     ensures declared { OnOk result ((before : List MethodOf) → Holds declared.old before → Holds declared.new (before ++ view_method method.now ∷ [])) }
 {
-    if method.code.is_none() {
-        declared.admit(method)?;
-        return Ok(Found::NotYet(0));
+    match &method.code {
+        Some(_) => find_coded(alloc, class, declared, method),
+        None => {
+            declared.admit(method)?;
+            Ok(Finding::NotYet(0))
+        }
     }
-    find_coded(alloc, class, declared, method)
 }
 
 /// What is told of a method of which this is found.
-fn told(
+fn told_of(
     alloc: Global,
     class: &ClassFile,
     method: &Method,
-    found: Found,
+    found: Finding,
 ) -> Result<Told, AllocError>
     ensures told { (before : List MethodOf) → IsFound (view_class class.now) before (view_method method.now) found → IfOk result (IsToldOf (view_class class.now) before (view_method method.now)) }
 {
     match found {
-        Found::Straight(exp) => Ok(Told::Text(returning_text(alloc, class, method, exp)?)),
-        Found::Bad { pc, kind } => Ok(Told::Line(bad_tail(alloc, kind, pc)?)),
-        Found::NotYet(pc) => Ok(Told::Line(not_yet_tail(alloc, pc)?)),
+        Finding::Straight(exp) => Ok(Told::Text(returning_text(alloc, class, method, exp)?)),
+        Finding::Bad { pc, kind } => Ok(Told::Line(bad_tail(alloc, kind, pc)?)),
+        Finding::NotYet(pc) => Ok(Told::Line(not_yet_tail(alloc, pc)?)),
     }
 }
 
@@ -163,7 +182,7 @@ fn judge_method<'a>(
     ensures declared { OnOk result ((before : List MethodOf) → Holds declared.old before → Holds declared.new (before ++ view_method method.now ∷ [])) }
 {
     let found = find(alloc, class, declared, method)?;
-    let told = told(alloc, class, method, found)?;
+    let told = told_of(alloc, class, method, found)?;
     Ok(told)
 }
 

@@ -4,3 +4,4 @@ pub mod StraightLaws
 pub mod StraightShows
 pub mod DeclaredLemmas
 pub mod StraightMethodLemmas
+pub mod Examples

@@ -6,10 +6,6 @@
 #[cfg(test)]
 mod classes;
 #[cfg(test)]
-mod code;
-#[cfg(test)]
-mod instructions;
-#[cfg(test)]
 mod layouts;
 #[cfg(test)]
 mod names;

@@ -21,9 +21,9 @@ loop-method-preserved c =
     let more = take_map_more view_method items i c.method-item.result inside c.method-item.is in
     let all_flags : All (λ these. (these.flags ≡ 0x8) ⊎ (these.flags ≡ 0x9)) (map view_method items) = rw c.as_slice-method-items.ensures c.requires.flags in
     let flags = all_at view_method (λ these. (these.flags ≡ 0x8) ⊎ (these.flags ≡ 0x9)) items i c.method-item.result all_flags inside c.method-item.is in
-    let told : IsToldOf class (take i (map view_method items)) method c.in_ok-exp.field-0 = c.in_ok-exp.ensures.told (take i (map view_method items)) before.holds in
+    let told : IsToldOf class (take i (map view_method items)) method c.in_ok-text.field-0 = c.in_ok-text.ensures.told (take i (map view_method items)) before.holds in
     record {
-      holds = rw more (c.in_ok-exp.ensures.declared (take i (map view_method items)) before.holds);
+      holds = rw more (c.in_ok-text.ensures.declared (take i (map view_method items)) before.holds);
       judged = elim c.match-branch-2.branch [
         | in-Text+in_ok-push-in-Text w ↦
             let text = w.in-Text.text in

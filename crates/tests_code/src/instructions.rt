@@ -1,4 +1,7 @@
 //! Methods of the standard's own examples as instructions (JVMS 3.2, 3.10), and code that is bad.
+ghost use Rattle.std.specs.Prelude.{IfOk};
+ghost use Rattle.dj_instructions.specs.Instructions.{IsRising, view_instructions};
+
 use dj_class::{Entry, Pool};
 use dj_instructions::{
     BadKind, Instruction, Kind, instruction_at, is_start, read_instructions, type_of_class,
@@ -45,6 +48,18 @@ fn pool(alloc: Global) -> Result<Pool, AllocError> {
     Pool::new(alloc, entries)
 }
 
+/// The instructions of a code, where it isn't longer than code may be.
+fn read(alloc: Global, code: &[u8]) -> Result<Items<(u32, Instruction)>, Stop<BadKind>>
+    ensures rising { IfOk result (λ found. IsRising (view_instructions found)) }
+{
+    if code.len() > 65_535 {
+        return Err(Stop::Memory);
+    }
+    let pool = pool(alloc)?;
+    let found = read_instructions(alloc, &pool, code)?;
+    Ok(found)
+}
+
 /// What an instruction is, by a letter, and a number of it.
 fn told(instruction: &Instruction) -> (char, i64) {
     match instruction {
@@ -62,8 +77,7 @@ fn told(instruction: &Instruction) -> (char, i64) {
 
 /// What the instructions of a code are, those of a switch without its targets.
 fn listed(alloc: Global, code: &[u8]) -> Result<Vec<(u32, char, i64)>, Stop<BadKind>> {
-    let pool = pool(alloc)?;
-    let found = read_instructions(alloc, &pool, code)?;
+    let found = read(alloc, code)?;
     let mut lines = Vec::new(alloc);
     for (pc, instruction) in found.as_slice() {
         let (letter, number) = told(&instruction.copy(alloc)?);
@@ -102,8 +116,7 @@ fn has_targets(
     wanted: &[u32],
     last: u32,
 ) -> Result<bool, Stop<BadKind>> {
-    let pool = pool(alloc)?;
-    let found = read_instructions(alloc, &pool, code)?;
+    let found = read(alloc, code)?;
     Ok(match instruction_at(found.as_slice(), 1) {
         Some(Instruction::TableSwitch { targets, other, .. }) => {
             targets.as_slice() == wanted && *other == last
@@ -176,8 +189,7 @@ fn has_its_types(alloc: Global) -> Result<bool, AllocError> {
 
 /// How many of the pcs up to 14 are starts of instructions of `spin`.
 fn starts(alloc: Global) -> Result<usize, Stop<BadKind>> {
-    let pool = pool(alloc)?;
-    let found = read_instructions(alloc, &pool, spin())?;
+    let found = read(alloc, spin())?;
     let mut count = 0usize;
     for pc in 0..15 {
         if is_start(found.as_slice(), pc) {
