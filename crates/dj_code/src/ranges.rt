@@ -10,9 +10,9 @@ ghost use Rattle.dj_code.specs.Targets.{IsLeast, LeadsRight, RangesRight, Starts
 use crate::content::RawHandler;
 use crate::method_code::Handler;
 use crate::targets::least_wrong;
-use dj_pool::Pool;
 use dj_instructions::{Instruction, is_start};
 use dj_names::{ClassName, Items, Units};
+use dj_pool::Pool;
 use std::alloc::{AllocError, Global};
 
 /// Whether an entry's handler is an instruction.

@@ -13,10 +13,10 @@ ghost use Rattle.dj_frames.specs.Reading.{IsListedTo, ReadsTable};
 use crate::follow::{Listed, follow};
 use crate::locals::Locals;
 use crate::written::written_at;
-use dj_pool::Pool;
 use dj_instructions::{BadKind, Instruction};
 use dj_layout::{Fault, Stop, fault_at, u16_at};
 use dj_names::Items;
+use dj_pool::Pool;
 use std::alloc::Global;
 
 /// The fault behind the last of the frames, 0 where there is none.

@@ -13,10 +13,10 @@ ghost use Rattle.dj_frames.specs.StackMap.{u1, u2, raw_tag, plain_tag, IsTagOf, 
 use crate::form::Count;
 use crate::places::is_new_at;
 use crate::tag::Tag;
-use dj_pool::Pool;
 use dj_instructions::{BadKind, Instruction, type_of_class};
 use dj_layout::{Stop, fault_at, u8_at, u16_at};
 use dj_names::Items;
+use dj_pool::Pool;
 use std::alloc::{AllocError, Global};
 
 /// The tag of a verification type.

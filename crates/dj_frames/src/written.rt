@@ -11,10 +11,10 @@ ghost use Rattle.dj_frames.specs.Reading.{view_written};
 use crate::form::form_of;
 use crate::tag::Tag;
 use crate::tags::tags_at;
-use dj_pool::Pool;
 use dj_instructions::{BadKind, Instruction};
 use dj_layout::{Stop, fault_at, u8_at, u16_at};
 use dj_names::Items;
+use dj_pool::Pool;
 use std::alloc::Global;
 
 /// A frame as it is written: its kind, the delta of its offset, and the locals and stack entries

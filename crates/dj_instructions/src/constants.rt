@@ -10,8 +10,8 @@ ghost use Rattle.dj_instructions.specs.Answers.{IsAnswer};
 
 use crate::instruction::Instruction;
 use crate::pool_names::{descriptor_at, reference_at, type_of_class};
-use dj_pool::{Entry, Pool};
 use dj_names::Constant;
+use dj_pool::{Entry, Pool};
 use std::alloc::{AllocError, Global};
 
 /// The type that a Class entry names, as a constant.

@@ -11,9 +11,9 @@ ghost use Rattle.dj_instructions.specs.Listing.{IsListing, HasBadInstruction, Is
 use crate::instruction::Instruction;
 use crate::kinds::BadKind;
 use crate::reading::instruction_read;
-use dj_pool::Pool;
 use dj_layout::Stop;
 use dj_names::Items;
+use dj_pool::Pool;
 use std::alloc::Global;
 
 /// The instructions of a method's code, each with its pc.

@@ -12,8 +12,8 @@ ghost use Rattle.dj_instructions.specs.Answers.{IsAnswer};
 use crate::instruction::Instruction;
 use crate::pool_names::{Member, Reference, member_at, reference_at};
 use crate::references::{FieldRef, MethodRef};
-use dj_pool::{Entry, Pool};
 use dj_names::{Descriptor, JType, Units};
+use dj_pool::{Entry, Pool};
 use std::alloc::{AllocError, Global};
 
 /// `<init>`, in units.

@@ -10,8 +10,8 @@ ghost use Rattle.dj_instructions.specs.Answers.{IsAnswer};
 use crate::instruction::Instruction;
 use crate::pool_names::type_of_class;
 use crate::types::has_dimensions;
-use dj_pool::Pool;
 use dj_names::JType;
+use dj_pool::Pool;
 use std::alloc::{AllocError, Global};
 
 /// The type of the elements of `newarray`, by its operand.

@@ -20,8 +20,8 @@ use crate::kinds::BadKind;
 use crate::objects::sized_array_at;
 use crate::plain::{widened_load, with_byte, with_count, with_short};
 use crate::switches::{lookup_at, table_at};
-use dj_pool::Pool;
 use dj_layout::{Stop, fault_at, u8_at, u16_at, u32_at};
+use dj_pool::Pool;
 use std::alloc::Global;
 
 /// Whether `wide` may stand in front of an opcode.

@@ -12,8 +12,8 @@ use crate::instruction::Instruction;
 use crate::jumps::{jump, target};
 use crate::members::{dynamic, field_access, method_call};
 use crate::objects::{cast_at, instance_at, new_array_at, new_at, primitive_array};
-use dj_pool::Pool;
 use dj_names::Constant;
+use dj_pool::Pool;
 use std::alloc::{AllocError, Global};
 
 /// An opcode with one byte behind it.

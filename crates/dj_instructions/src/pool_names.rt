@@ -10,8 +10,8 @@ ghost use Rattle.dj_instructions.specs.PoolNames.{Finds, IsTypeNamed, NamesType,
 ghost use Rattle.dj_instructions.specs.PoolParts.{NamesArray, NamesClass, HasMember, HasReference};
 
 use crate::types::has_dimensions;
-use dj_pool::{Entry, Pool};
 use dj_names::{ClassName, Descriptor, JType, Units};
+use dj_pool::{Entry, Pool};
 use std::alloc::{AllocError, Global};
 
 /// A name and a descriptor.

@@ -15,8 +15,8 @@ use crate::instruction::Instruction;
 use crate::kinds::BadKind;
 use crate::operands::{byte_at, counted_at, short_at, sizes_at, step_at, widened_at, word_at};
 use crate::switches::{lookup_at, table_at};
-use dj_pool::Pool;
 use dj_layout::{Stop, fault_at, u8_at};
+use dj_pool::Pool;
 use std::alloc::Global;
 
 /// An opcode.
