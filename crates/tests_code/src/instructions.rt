@@ -193,7 +193,7 @@ fn starts(alloc: Global) -> Result<usize, Stop<BadKind>> {
     let mut count = 0usize;
     for pc in 0..15 {
         if is_start(found.as_slice(), pc) {
-            count += 1;
+            count = count.saturating_add(1);
         }
     }
     Ok(count)
