@@ -49,7 +49,7 @@ pub record Raw : Type 0 where
 abbrev pub magic : Layout BrokenKind ℕ
 magic = tested (number 4 kind.Short) (λ x. x == 3405691582) kind.Magic
 
--- a major version from `oldest` to 52 (JVMS table 4.1-A)
+-- a major version from `oldest` to 52 (JVMS 4.1)
 abbrev pub major : ℕ → Layout BrokenKind ℕ
 major oldest = tested u2 (λ x. nat_le oldest x && nat_le x 52) kind.Version
 

@@ -56,7 +56,7 @@ pub record IsMarked (places : Places) (rows : List (List ℕ)) (lower upper : Na
   pub upper_at : place_of places upper ≡ Some to
   pub is_set : IsSet (row_at rows from) to
 
--- each bit that is set is for two names the second of which is reached from the first, and for each two other such names one is
+-- a bit is set only for two names of which the second is reached from the first, and for any two such names that differ one is set
 pub record IsTable (headers : List Header) (places : Places) (rows : List (List ℕ)) : Type 0 where
   pub sound : (from to : ℕ) → IsSet (row_at rows from) to → IsReached headers places from to
   pub whole : (lower upper : Name) → Implements headers lower upper → (lower ≡ upper) ⊎ IsMarked places rows lower upper
@@ -107,7 +107,7 @@ pub record IsUp (headers : List Header) (P : Name → Type 0) (places : Places) 
   pub sound : (at : ℕ) → IsSet row at → IsPlaced headers P places at
   pub whole : (upper : Name) → IsAbove headers P upper → IsIn places row upper
 
--- all is ready for a header: its name has this place, whose own bits are set, and these rows have what is above it
+-- all is ready for a header: the tables hold, its name has this place, and these rows have what is above it
 pub record IsReady (headers : List Header) (header : Header) (places : Places) (at : ℕ) (by_parents by_superclasses : List (List ℕ)) (above lines : List ℕ) : Type 0 where
   pub tables : AreTables headers places by_parents by_superclasses
   pub named : place_of places header.name ≡ Some at

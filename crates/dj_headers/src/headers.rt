@@ -46,13 +46,15 @@ impl Headers {
         }
     }
 
+    /// The headers in the order in which they were added.
     pub fn as_slice(&self) -> &[Header]
         ensures headers { result.now ≡ self.now }
     {
         self.headers.as_slice()
     }
 
-    /// Adds the header of a class that has none yet. All memory is taken before anything changes.
+    /// Adds the header of a class that has none yet. All memory is taken before what the headers say
+    /// changes.
     pub fn push(&mut self, header: Header) -> Result<(), AllocError>
         requires { ¬ Contains (names self.old) header.name }
         ensures ok { OnOk result (self.new ≡ self.old ++ header ∷ []) }

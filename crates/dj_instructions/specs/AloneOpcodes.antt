@@ -12,7 +12,7 @@ use Rattle.dj_instructions.specs.declared.kinds.Calc as calc_type
 use Rattle.dj_instructions.specs.declared.kinds.Calc.TheVariants as calc
 use Rattle.dj_instructions.specs.Instructions.{Instruction, Nop, PushNull, Push, Load, Store, ArrayLoad, ArrayStore, Pop, Pop2, Dup, DupX1, DupX2, Dup2, Dup2X1, Dup2X2, Swap, Calc, Convert, Compare, Return, ArrayLength, Throw, MonitorEnter, MonitorExit}
 
--- the families in the order of opcodes (JVMS 2.11.1)
+-- the kinds in the order of opcodes (JVMS 2.11.1)
 abbrev pub kinds : List Kind
 kinds = kind.Int ∷ kind.Long ∷ kind.Float ∷ kind.Double ∷ kind.Ref ∷ []
 
@@ -24,11 +24,11 @@ elements = element.Int ∷ element.Long ∷ element.Float ∷ element.Double ∷
 abbrev pub stack_moves : List Instruction
 stack_moves = Pop ∷ Pop2 ∷ Dup ∷ DupX1 ∷ DupX2 ∷ Dup2 ∷ Dup2X1 ∷ Dup2X2 ∷ Swap ∷ []
 
--- `iadd` to `dneg`, each for four families
+-- `iadd` to `dneg`, each for four kinds
 abbrev pub calcs : List calc_type.Calc
 calcs = calc.Add ∷ calc.Sub ∷ calc.Mul ∷ calc.Div ∷ calc.Rem ∷ calc.Neg ∷ []
 
--- `ishl` to `lxor`, each for two families
+-- `ishl` to `lxor`, each for two kinds
 abbrev pub bit_calcs : List calc_type.Calc
 bit_calcs = calc.Shl ∷ calc.Shr ∷ calc.Ushr ∷ calc.And ∷ calc.Or ∷ calc.Xor ∷ []
 

@@ -109,7 +109,7 @@ is_constructor name = bytes_eq name (codes "<init>")
 abbrev pub is_initialiser : List ℕ → Bool
 is_initialiser name = bytes_eq name (codes "<clinit>")
 
--- a name that a call may have which isn't that of a constructor (JVMS 4.9.1)
+-- neither the name of a constructor nor that of a static initialiser (JVMS 4.9.1)
 abbrev pub is_plain_name : List ℕ → Bool
 is_plain_name name = not (is_constructor name || is_initialiser name)
 

@@ -24,7 +24,7 @@ pub fn kind_at(place: u8) -> Option<Kind>
     }
 }
 
-/// The elements at a place in the order of `iaload` to `saload`.
+/// The element at a place in the order of `iaload` to `saload`.
 fn element_at(place: u8) -> Option<Element>
     ensures element { result ≡ slice_get elements place }
 {

@@ -44,7 +44,7 @@ pub enum Instruction {
     Calc(Calc, Kind),
     /// The slot of a local, and what is added to it.
     Iinc(u16, i16),
-    /// From a family to a type.
+    /// From a kind to a type.
     Convert(Kind, JType),
     /// `lcmp` and those of floats and doubles; true for those whose names end in `g`.
     Compare(Kind, bool),

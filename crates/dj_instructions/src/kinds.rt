@@ -1,16 +1,22 @@
 //! What instructions work on and what they do, as enums without contents (JVMS 2.11).
 
-/// What may be wrong with the code of a method.
+/// What may be wrong with the code of a method, at a pc.
 #[derive(Clone, Copy, Debug, PartialEq, Eq)]
 pub enum BadKind {
+    /// There is no such opcode, or it doesn't take this operand.
     Opcode,
+    /// The content of the `Code` isn't whole, has bytes left, or has code of no length that there may
+    /// be; or an instruction runs past the code.
     CutOff,
+    /// A jump leads to no instruction, or a handler is none.
     Target,
+    /// The range or the class of an entry of the exception table isn't right.
     Range,
+    /// A StackMapTable isn't right.
     Frame,
 }
 
-/// The family of values that an instruction works on (JVMS 2.11.1).
+/// The kind of values that an instruction works on (JVMS 2.11.1).
 #[derive(Clone, Copy, PartialEq, Eq)]
 pub enum Kind {
     Int,

@@ -1,6 +1,6 @@
 //! The code of a method as instructions (JVMS 4.7.3, 6.5).
 //! It stands on `dj_pool` for the pool, on `dj_layout` for the format, and on `dj_names` for names and types.
-//! The layers above use `read_instructions`, which answers the instructions exactly where the bytes are some and else their first fault, `instruction_at`, and `copy` of each type.
+//! The layers above use `read_instructions`, which answers the instructions exactly where the bytes are some and else their first fault, `instruction_at`, and `copy` of instructions and of the fields and methods that they name.
 #![tactic(auto)]
 
 mod alone;

@@ -2,5 +2,5 @@
 pub mod SharedParts
 pub mod PoolFormat
 pub mod Attributes
--- What the crate keeps to itself.
+-- What a pool tells of a text (`IsReadOf`), and what the crate keeps to itself.
 pub mod PoolTable

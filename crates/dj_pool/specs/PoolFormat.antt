@@ -20,7 +20,7 @@ use Rattle.dj_pool.specs.SharedParts.{u2}
 
 -- ---- what an entry is made of
 
--- the tag of an entry (JVMS table 4.4-B), 0 at an index without one
+-- the tag of an entry (JVMS table 4.4-A), 0 at an index without one
 abbrev pub tag_of : Entry → ℕ
 tag_of entry.Skip = 0
 tag_of (entry.Utf8 units) = 1
@@ -92,7 +92,7 @@ second_of (entry.MethodHandle kind reference) = reference
 second_of (entry.MethodType descriptor) = 0
 second_of (entry.InvokeDynamic bootstrap member) = member
 
--- an entry of this tag, one with numbers, and the numbers
+-- the entry of this tag, which isn't that of a text, with these numbers
 abbrev pub entry_with : ℕ → ℕ → ℕ → Entry
 entry_with tag x y =
     if tag == 3 then entry.Integer (cast_signed w32 x)

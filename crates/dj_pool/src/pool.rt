@@ -60,6 +60,7 @@ impl Pool {
         Pool::new(alloc, entries)
     }
 
+    /// The entries by their indices, from 0 on.
     pub fn as_slice(&self) -> &[Entry]
         ensures entries { result.now ≡ self.now }
     {
