@@ -5,6 +5,7 @@ use dj_code::{Frame, Slots, Tag};
 use std::fmt;
 use std::fmt::Write;
 
+/// A frame, to be shown.
 #[derive(Clone, Copy)]
 pub struct FrameText<'a>(pub &'a Frame);
 

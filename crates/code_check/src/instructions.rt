@@ -7,6 +7,7 @@ use dj_names::{Constant, Descriptor, JType, Units};
 use std::fmt;
 use std::fmt::Write;
 
+/// An instruction, to be shown.
 #[derive(Clone, Copy)]
 pub struct InstructionText<'a>(pub &'a Instruction);
 

@@ -1,4 +1,4 @@
-//! Answers each line of hexadecimal bytes with the code of the methods of that class file, a line each instruction, handler and frame, or their first fault.
+//! Answers each line of hexadecimal bytes with the code of the methods of that class file, a line each head, limits, instruction, handler and frame, or their first fault, and then `end`.
 //! It stands on the readers of class files and of code, and reads and prints.
 //! No layer stands above it: an independent check compares its lines with those of the JDK's readers and of a second reading.
 #![tactic(auto)]

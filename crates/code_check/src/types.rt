@@ -4,6 +4,7 @@ use dj_names::{Descriptor, JType};
 use std::fmt;
 use std::fmt::Write;
 
+/// A type, to be shown.
 #[derive(Clone, Copy)]
 pub struct TypeText<'a>(pub &'a JType);
 
@@ -31,6 +32,7 @@ fn put_type<W: Write>(kind: &JType, f: &mut fmt::Formatter<W>) -> fmt::Result {
     }
 }
 
+/// A descriptor, to be shown.
 #[derive(Clone, Copy)]
 pub struct DescriptorText<'a>(pub &'a Descriptor);
 

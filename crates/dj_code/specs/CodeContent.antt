@@ -1,4 +1,4 @@
--- The content of a Code attribute (JVMS 4.7.3).
+-- The content of a Code attribute (JVMS 4.7.3). Which fault it has is told nowhere: each is CutOff at 0.
 use Rattle.std.specs.Prelude.{ℕ, List, length, ◌&&◌, nat_le}
 use Rattle.dj_layout.specs.Layout.{Layout}
 use Rattle.dj_layout.specs.Parts.{number, run, exactly, headed, tested}

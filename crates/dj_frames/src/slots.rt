@@ -78,6 +78,7 @@ impl Slots {
         }
     }
 
+    /// How many tags there are.
     pub fn len(&self) -> usize
         ensures len { result ≡ length self.now }
     {
@@ -95,8 +96,8 @@ impl Slots {
         }
     }
 
-    /// Puts a tag behind the others; an error says that there is no room for it, or no number for
-    /// as many.
+    /// Puts a tag behind the others; an error says that memory is wanting, or that there are as many
+    /// tags as a `usize` counts.
     pub fn push(&mut self, alloc: Global, tag: Tag) -> Result<(), AllocError>
         ensures ok { OnOk result (self.new ≡ self.old ++ tag ∷ []) }
         ensures err { OnErr result (self.new ≡ self.old) }

@@ -19,7 +19,8 @@ use dj_names::Items;
 use dj_pool::Pool;
 use std::alloc::Global;
 
-/// The fault behind the last of the frames, 0 where there is none.
+/// The fault at the last of the frames, 0 where there is none, by where one with delta 0 would be
+/// behind it.
 pub fn fault_behind(least: u64) -> Stop<BadKind>
     ensures fault { result ≡ stop.Fault (record { kind = kind.Frame; offset = least - 1 }) }
 {

@@ -69,6 +69,7 @@ impl Tag {
         }
     }
 
+    /// Whether it is `this` before its constructor is called.
     pub fn is_unborn_this(&self) -> bool
         ensures unborn { result ≡ is_unborn_this (view_tag self.now) }
     {

@@ -1,6 +1,6 @@
 //! What the words of a run ask for, how a run ends, and the lines of its report.
 //! It stands on `dj_outer` for sinks, on `dj_names` for names and types, on `dj_pool` for what may be wrong with a class file, and on `dj_instructions` for what may be wrong with code.
-//! The layer above uses `read_words` (`order`), the functions that make a line (`line`) and those that put one piece by piece (`puts`).
+//! The layer above uses `read_words` (`order`), the functions that make a line (`line`) or the end of one (`tail`), those that put one piece by piece (`puts`), and `Status`.
 #![tactic(auto)]
 
 mod putting;

@@ -93,7 +93,7 @@ pub fn bad_tail(alloc: Global, kind: BadKind, pc: u32) -> Result<String, AllocEr
     format!(in alloc; " bad {kind} {pc}\n")
 }
 
-/// Puts the line on a method of a class, by its name and its descriptor; the line ends so.
+/// Puts the line on a method of a class, by its name and its descriptor, with this end.
 pub fn put_method_line<P: Sink>(
     report: &mut P,
     class: &ClassName,
