@@ -1,4 +1,4 @@
-//! Copies of descriptors, headers and members, and order among names; the stored run of `names_check` shows what is read and what is told of it.
+//! Copies of descriptors, members and static types, and order among names; the stored run of `names_check` shows what is read and what is told of it.
 use dj_names::{
     ClassMembers, ClassName, Constant, Descriptor, Field, Items, JType, Members, MethodHead,
     NameFault, StaticType, Units, read_descriptor, read_units,
