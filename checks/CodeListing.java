@@ -21,7 +21,7 @@ import jdk.internal.org.objectweb.asm.MethodVisitor;
 import jdk.internal.org.objectweb.asm.Opcodes;
 import jdk.internal.org.objectweb.asm.Type;
 
-/** Lists the code of each class file, a line of hexadecimal bytes, by javap's reader (pcs, limits, handlers) and by ASM (instructions, frames). */
+/** Lists the code of each class file, a line of hexadecimal bytes, by javap's reader (pcs, limits, numbers of bootstrap methods) and by ASM (instructions, handlers, frames). */
 public final class CodeListing {
     static final String[] KINDS = {"Int", "Long", "Float", "Double", "Ref"};
     static final String[] ELEMENTS = {"Int", "Long", "Float", "Double", "Ref", "Byte", "Char", "Short"};

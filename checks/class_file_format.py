@@ -237,11 +237,17 @@ def check_rest(pool, flags, this, above, interfaces, fields, methods, own):
             raise Fault("Index", name[0])
 
 
-def fault(data, oldest=50):
+def parts_of(data, oldest=50):
+    """The pool and the other parts of a class file, by all three passes; Fault tells what is wrong with other bytes."""
+    pool, *rest = lay_out(data, oldest)
+    check_pool(pool)
+    check_rest(pool, *rest)
+    return pool, rest
+
+
+def fault(data):
     try:
-        pool, *rest = lay_out(data, oldest)
-        check_pool(pool)
-        check_rest(pool, *rest)
+        parts_of(data)
     except Fault as found:
         return found.args
     return None

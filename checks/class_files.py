@@ -1,12 +1,13 @@
 """Compares class_check with the JVM's own parser and with a second reading, on damaged copies of class files.
 
-usage: python3 checks/class_files.py PROGRAM [COUNT [SEED]], with the built class_check as PROGRAM.
+usage: python3 checks/class_files.py PROGRAM [COUNT [SEED]], with the built class_check as PROGRAM, or - for the second reading alone.
 A few hundred class files are made by javac, with every kind of entry, member and attribute that it writes. Of COUNT
 damaged copies (200,000), kind and offset must be those of `class_file_format.py`. Whether a copy is whole is compared
 with what `defineClass` of the JVM says; where they differ, a rule named here must explain it. A difference without
 one is printed, and the exit status is 1.
 """
-import collections, pathlib, random, re, subprocess, sys, tempfile
+import collections, pathlib, re, subprocess, sys, tempfile
+from asking import ask_each, end, given, rule_for
 from class_file_format import PARTS, UTF8, LONG, DOUBLE, Reader, fault
 
 FOLDER = pathlib.Path(__file__).parent
@@ -134,23 +135,14 @@ BEYOND = [
 def explains(mine, theirs):
     """The rule by which the two answers differ, or None."""
     if mine == "whole":
-        return next((rule for words, rule in BEYOND if re.search(words, theirs)), None)
+        return rule_for(BEYOND, theirs)
     if mine.startswith("Version") and theirs == "whole":
         return "the JVM takes versions 45 to its own"
     return None
 
 
-def run(command, lines):
-    given = "".join(line + "\n" for line in lines).encode()
-    answers = subprocess.run(command, input=given, stdout=subprocess.PIPE, check=True).stdout.decode().split("\n")
-    assert len(answers) == len(lines) + 1, (command, len(answers), len(lines))
-    return answers[:-1]
-
-
 def main():
-    program = sys.argv[1]
-    count = int(sys.argv[2]) if len(sys.argv) > 2 else 200_000
-    rng = random.Random(int(sys.argv[3]) if len(sys.argv) > 3 else 1)
+    program, count, rng = given(sys.argv[1:], 200_000)
     tally, reasons, wrong = collections.Counter(), collections.Counter(), []
     with tempfile.TemporaryDirectory() as folder:
         subprocess.run(["javac", "-d", folder, str(FOLDER / "ClassFiles.java")], check=True)
@@ -161,8 +153,8 @@ def main():
             copies = (files if done == 0 else []) + [damage(rng, files) for _ in range(min(BATCH, count - done))]
             done += min(BATCH, count - done)
             lines = [data.hex() for data in copies]
-            java = run(["java", "-Xshare:auto", "-cp", folder, "ClassFiles"], lines)
-            ours = run([program], lines) if program != "-" else [None] * len(lines)
+            java = ask_each(["java", "-Xshare:auto", "-cp", folder, "ClassFiles"], lines)
+            ours = ask_each([program], lines) if program != "-" else [None] * len(lines)
             for data, mine, theirs in zip(copies, ours, java):
                 found = fault(data)
                 second = "whole" if found is None else f"{found[0]} {found[1]}"
@@ -178,10 +170,7 @@ def main():
     print(count, "copies:", ", ".join(f"{kind} {n}" for kind, n in sorted(tally.items())))
     for rule, n in reasons.most_common(60):
         print(f"differ from the JVM {n}: {rule}")
-    print("differ without a named rule, or from the second reading:", len(wrong))
-    for row in wrong[:20]:
-        print(" ", row)
-    return 1 if wrong else 0
+    return end("differ without a named rule, or from the second reading", wrong)
 
 
 sys.exit(main())

@@ -35,8 +35,9 @@ where KIND, ELEMENT, CALC and TEST are the names of the variants, and INTERFACE 
 ITEM is Top, Int, Float, Double, Long, Null, UnbornThis, `Unborn:PC`, or a TYPE; a Long or Double is followed by a Top
 among locals alone.
 """
-import collections, pathlib, random, re, subprocess, sys, tempfile, zipfile
+import collections, pathlib, re, subprocess, sys, tempfile, zipfile
 import java_sources
+from asking import ask, ask_each, end, given, rule_for
 from code_format import answer, lines_of
 from damaged_codes import damage, lone_methods
 
@@ -48,15 +49,10 @@ SOURCES = 160
 BATCH = 4_000
 
 
-def run(command, files):
-    given = "".join(data.hex() + "\n" for data in files).encode()
-    return subprocess.run(command, input=given, stdout=subprocess.PIPE, check=True).stdout.decode().split("\n")[:-1]
-
-
 def told(command, files):
     """The lines that a program tells of each class file."""
     parts = [[]]
-    for line in run(command, files):
+    for line in ask(command, [data.hex() for data in files]):
         parts[-1].append(line)
         if line == "end":
             parts.append([])
@@ -127,7 +123,7 @@ def explains(mine, theirs):
     """The rule by which the JVM and the second reading differ, or None."""
     if mine != "whole" or FORMAT.search(theirs):
         return None
-    return next((rule for words, rule in BEYOND if re.search(words, theirs)), None)
+    return rule_for(BEYOND, theirs)
 
 
 def compare_damaged(program, folder, files, count, rng, wrong):
@@ -138,7 +134,7 @@ def compare_damaged(program, folder, files, count, rng, wrong):
         copies = [lone.file(content) for lone, content in chosen]
         mine = [[*lines_of(lone.pool, *lone.method, content), "end"] for lone, content in chosen]
         ours = told([program], copies) if program != "-" else mine
-        java = run(["java", "-Xshare:auto", "-cp", folder, "ClassFiles", "link"], copies)
+        java = ask_each(["java", "-Xshare:auto", "-cp", folder, "ClassFiles", "link"], [data.hex() for data in copies])
         for data, lines, second, theirs in zip(copies, ours, mine, java):
             found = second[1] if second[1].startswith("bad") else "whole"
             tally[" ".join(found.split()[:2])] += 1
@@ -155,8 +151,8 @@ def compare_damaged(program, folder, files, count, rng, wrong):
 
 
 def main(words):
-    program, count = words[0], int(words[1]) if len(words) > 1 else 100_000
-    rng, wrong = random.Random(int(words[2]) if len(words) > 2 else 1), []
+    program, count, rng = given(words, 100_000)
+    wrong = []
     with tempfile.TemporaryDirectory() as folder:
         for name in ("CodeListing", "ClassFiles"):
             subprocess.run(["javac", *JDK, "-d", folder, str(FOLDER / f"{name}.java")], check=True)
@@ -166,10 +162,7 @@ def main(words):
         compare_whole(program, folder, "made by javac", files, wrong)
         compare_whole(program, folder, "the same in version 50", [data[:7] + b"\x32" + data[8:] for data in files[::5]], wrong)
         compare_damaged(program, folder, files, count, rng, wrong)
-    print("differ without a named rule, or from another reading:", len(wrong))
-    for row in wrong[:20]:
-        print(" ", row)
-    return 1 if wrong else 0
+    return end("differ without a named rule, or from another reading", wrong)
 
 
 if __name__ == "__main__":

@@ -4,7 +4,7 @@
 `code.py`. A Code is read in five passes: layout, instructions, targets, ranges, frames. The first pass with a fault
 counts, and within one the least place.
 """
-from class_file_format import Fault, Reader, check_pool, check_rest, class_text, is_class, lay_out, text, CLASS, EACH
+from class_file_format import Fault, Reader, class_text, is_class, parts_of, text, CLASS, EACH
 from instruction_format import Bad, Decoder, shown, type_of_name
 
 TAGS = ["Top", "Int", "Float", "Double", "Long", "Null", "UnbornThis"]
@@ -165,11 +165,9 @@ def methods_of(pool, rest):
                 yield class_text(pool, this[1]), flags[1] & 8 != 0, text(pool, name[1]), text(pool, descriptor[1]), content
 
 
-def answer(data, oldest=50):
+def answer(data):
     try:
-        pool, *rest = lay_out(data, oldest)
-        check_pool(pool)
-        check_rest(pool, *rest)
+        pool, rest = parts_of(data)
     except Fault as found:
         return [f"broken {found.args[0]} {found.args[1]}", "end"]
     lines = [line for method in methods_of(pool, rest) for line in lines_of(pool, *method)]

@@ -69,30 +69,33 @@ def member(pool, index, tags):
     return type_of_name(class_text(pool, owner)), text(pool, part(pool, both, (NAME_AND_TYPE,), 0)), type_text(pool, both)
 
 
+def handle(pool, kind, index):
+    """What a load of a MethodHandle of this kind pushes, which refers to the field or method at this index."""
+    interface = "true" if pool[index][0] == INTERFACE_METHOD else "false"
+    owner, name, descriptor = map(shown, member(pool, index, (FIELD, METHOD, INTERFACE_METHOD)))
+    return f"PushHandle {kind} {interface} {owner} {name} {descriptor}"
+
+
+# What a load of each other constant pushes, by its tag, from the pool and the number in its entry.
+PUSHES = {
+    INTEGER: lambda _, value: f"Push Int {value - (value >> 31 << 32)}",
+    LONG: lambda _, value: f"Push Long {value - (value >> 63 << 64)}",
+    FLOAT: lambda _, value: f"Push Float {value:08x}",
+    DOUBLE: lambda _, value: f"Push Double {value:016x}",
+    STRING: lambda pool, value: f'Push Text "{shown(text(pool, value))}"',
+    CLASS: lambda pool, value: f"PushClass {shown(type_of_name(text(pool, value)))}",
+    METHOD_TYPE: lambda pool, value: f"PushMethodType {shown(text(pool, value))}",
+}
+
+
 def constant(pool, index, tags):
     """What a load of the constant at this index pushes, or None where its tag isn't one of these."""
     tag, content = pool.get(index, (None, None))
     if tag not in tags:
         return None
-    value = content[0][1]
-    if tag == INTEGER:
-        return f"Push Int {value - (value >> 31 << 32)}"
-    if tag == LONG:
-        return f"Push Long {value - (value >> 63 << 64)}"
-    if tag == FLOAT:
-        return f"Push Float {value:08x}"
-    if tag == DOUBLE:
-        return f"Push Double {value:016x}"
-    if tag == STRING:
-        return f'Push Text "{shown(text(pool, value))}"'
-    if tag == CLASS:
-        return f"PushClass {shown(type_of_name(class_text(pool, index)))}"
-    if tag == METHOD_TYPE:
-        return f"PushMethodType {shown(text(pool, value))}"
-    referred = content[1][1]
-    interface = "true" if pool[referred][0] == INTERFACE_METHOD else "false"
-    owner, name, descriptor = map(shown, member(pool, referred, (FIELD, METHOD, INTERFACE_METHOD)))
-    return f"PushHandle {value} {interface} {owner} {name} {descriptor}"
+    if tag == HANDLE:
+        return handle(pool, content[0][1], content[1][1])
+    return PUSHES[tag](pool, content[0][1])
 
 
 class Decoder:

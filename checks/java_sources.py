@@ -83,28 +83,27 @@ class Method:
             lambda: f"{self.part('Object', depth)} instanceof {rng.choice(['String', 'int[]', 'java.util.List', 'Object[][]'])}",
             lambda: f"{self.part('boolean[]', depth)}[{self.value('int', depth - 1)}]"])()
 
+    def one_of(self, depth, plain, ways):
+        """One of the plain values where no depth is left, else what one of the ways makes."""
+        return self.rng.choice(plain) if depth <= 0 else self.rng.choice(ways)()
+
     def string(self, depth):
-        rng = self.rng
-        if depth <= 0:
-            return rng.choice(TEXTS)
-        return rng.choice([
-            lambda: f"{self.part('String', depth)} + {self.part(rng.choice(TYPES[:9]), depth)}",
+        return self.one_of(depth, TEXTS, [
+            lambda: f"{self.part('String', depth)} + {self.part(self.rng.choice(TYPES[:9]), depth)}",
             lambda: f"(String) {self.part('Object', depth)}",
-            lambda: f"String.valueOf({self.value(rng.choice(WIDE), depth - 1)})",
-            lambda: f"({self.test(depth - 1)} ? {self.part('String', depth)} : (String) null)"])()
+            lambda: f"String.valueOf({self.value(self.rng.choice(WIDE), depth - 1)})",
+            lambda: f"({self.test(depth - 1)} ? {self.part('String', depth)} : (String) null)"])
 
     def object(self, depth):
-        rng = self.rng
-        if depth <= 0:
-            return rng.choice(["null", "F3", "String.class", "int[].class", "new Object()"] + ([] if self.static else ["this"]))
-        return rng.choice([
-            lambda: self.part(rng.choice(TYPES), depth),
+        plain = ["null", "F3", "String.class", "int[].class", "new Object()"] + ([] if self.static else ["this"])
+        return self.one_of(depth, plain, [
+            lambda: self.part(self.rng.choice(TYPES), depth),
             lambda: f"new StringBuilder({self.value('String', depth - 1)})",
             lambda: f"new StringBuilder({self.test(depth - 1)} ? {self.part('int', depth)} : 3)",
             lambda: f"new Object[] {{ {self.value('Object', depth - 1)}, {self.value('int', depth - 1)} }}",
-            lambda: f"new Object() {{ int m() {{ return F0 + {rng.randrange(9)}; }} }}",
+            lambda: f"new Object() {{ int m() {{ return F0 + {self.rng.randrange(9)}; }} }}",
             lambda: "(Runnable) () -> g(F0)", lambda: "(java.util.function.Supplier<Object>) Object::new",
-            lambda: f"{self.part('Object[]', depth)}[{self.value('int', depth - 1)}]"])()
+            lambda: f"{self.part('Object[]', depth)}[{self.value('int', depth - 1)}]"])
 
     def array(self, kind, depth):
         rng = self.rng

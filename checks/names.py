@@ -4,7 +4,8 @@ usage: python3 checks/names.py PROGRAM [COUNT [SEED]], with the built names_chec
 Where the two differ, the stricter rule of ours that the input breaks must be one of those named
 here; a difference without one is printed, and the exit status is 1.
 """
-import collections, pathlib, random, re, subprocess, sys, tempfile
+import collections, pathlib, re, subprocess, sys, tempfile
+from asking import ask_each, end, given
 
 WORDS = """abstract continue for new switch assert default if package synchronized boolean do goto
 private this break double implements protected throw byte else import public throws case enum
@@ -109,11 +110,8 @@ def lenient_descriptor(text):
     return None
 
 
-
 def main():
-    program = sys.argv[1]
-    count = int(sys.argv[2]) if len(sys.argv) > 2 else 100_000
-    rng = random.Random(int(sys.argv[3]) if len(sys.argv) > 3 else 1)
+    program, count, rng = given(sys.argv[1:], 100_000)
     questions = []
     for _ in range(count):
         kind = rng.choice("uddi")
@@ -121,13 +119,12 @@ def main():
             questions.append((kind, some_bytes(rng)))
         else:
             questions.append((kind, (some_descriptor if kind == "d" else some_identifier)(rng)))
-    lines = "".join(f"{kind} {(item if kind == 'u' else item.encode('utf-16-be')).hex()}\n" for kind, item in questions)
-    ours = subprocess.run([program], input=lines.encode(), stdout=subprocess.PIPE, check=True).stdout.decode().split("\n")
+    lines = [f"{kind} {(item if kind == 'u' else item.encode('utf-16-be')).hex()}" for kind, item in questions]
+    ours = ask_each([program], lines)
     with tempfile.TemporaryDirectory() as folder:
         source = pathlib.Path(__file__).with_name("Names.java")
         subprocess.run(["javac", "-d", folder, str(source)], check=True)
-        java = subprocess.run(["java", "-Xss64m", "-cp", folder, "Names"], input=lines.encode(), stdout=subprocess.PIPE, check=True).stdout.decode().split("\n")
-    assert len(ours) == len(java) == count + 1, (len(ours), len(java))
+        java = ask_each(["java", "-Xss64m", "-cp", folder, "Names"], lines)
     tally, reasons, unexplained = collections.Counter(), collections.Counter(), []
     for (kind, item), mine, theirs in zip(questions, ours, java):
         if kind == "i":
@@ -148,10 +145,7 @@ def main():
     print(count, "inputs:", ", ".join(f"{kind} {answer} {n}" for (kind, answer), n in sorted(tally.items())))
     for (kind, reason), n in sorted(reasons.items()):
         print(f"differ {n}: {kind}, {reason}")
-    print("differ without a named rule:", len(unexplained))
-    for row in unexplained[:20]:
-        print(" ", row)
-    return 1 if unexplained else 0
+    return end("differ without a named rule", unexplained)
 
 
 sys.exit(main())

@@ -15,7 +15,7 @@ const HEAD: [u8; 96] = [
     0x00, 0x00, 0x00, 0x00, 0x00, 0x01, 0x00, 0x08, 0x00, 0x05, 0x00, 0x06, 0x00, 0x01, 0x00, 0x07,
 ];
 
-/// What stands at a pc, as far as a test looks.
+/// What is told of a method's code, as far as a test looks.
 #[derive(Clone, Copy, Debug, PartialEq, Eq)]
 enum Told {
     /// Code: how many instructions and handlers, and the pcs of its frames.

@@ -56,20 +56,20 @@ pub fn add_class(
     add(headers, name, superclass, interfaces, flags)
 }
 
-/// The class of a letter and a number.
-fn numbered(alloc: Global, letter: &str, number: u32) -> Result<ClassName> {
-    let text = format!(in alloc; "{letter}{number}")?;
+/// The class of a word and a number.
+fn numbered(alloc: Global, word: &str, number: u32) -> Result<ClassName> {
+    let text = format!(in alloc; "{word}{number}")?;
     class_name(alloc, text.as_str())
 }
 
-fn add_link(alloc: Global, headers: &mut Headers, letter: &str, number: u32) -> Result<()> {
-    let name = numbered(alloc, letter, number)?;
-    let superclass = numbered(alloc, letter, number.saturating_sub(1))?;
+fn add_link(alloc: Global, headers: &mut Headers, word: &str, number: u32) -> Result<()> {
+    let name = numbered(alloc, word, number)?;
+    let superclass = numbered(alloc, word, number.saturating_sub(1))?;
     add(headers, name, Some(superclass), Items::new(alloc), 0x0021)?;
     Ok(())
 }
 
-/// Classes of a letter and the numbers up to this one, each the superclass of the next; they come
+/// Classes of a word and the numbers up to this one, each the superclass of the next; they come
 /// from the highest or, from below, from the lowest.
 pub fn add_chain(
     alloc: Global,
@@ -77,21 +77,21 @@ pub fn add_chain(
     text: &str,
     from_below: bool,
 ) -> Result<&'static str> {
-    let (letter, last) = cut(text, ' ');
+    let (word, last) = cut(text, ' ');
     let last = number(last);
     for step in 0..last {
         let number = if from_below { last - step } else { step + 1 };
-        add_link(alloc, headers, letter, number)?;
+        add_link(alloc, headers, word, number)?;
     }
     Ok("added")
 }
 
 /// An interface with both interfaces of the level above as its own.
-fn add_diamond(alloc: Global, headers: &mut Headers, letter: &str, level: u32) -> Result<()> {
-    let name = numbered(alloc, letter, level)?;
+fn add_diamond(alloc: Global, headers: &mut Headers, word: &str, level: u32) -> Result<()> {
+    let name = numbered(alloc, word, level)?;
     let mut above = Items::new(alloc);
-    above.push(numbered(alloc, "L", level.saturating_sub(1))?)?;
-    above.push(numbered(alloc, "R", level.saturating_sub(1))?)?;
+    above.push(numbered(alloc, "left", level.saturating_sub(1))?)?;
+    above.push(numbered(alloc, "right", level.saturating_sub(1))?)?;
     add(headers, name, None, above, 0x0601)?;
     Ok(())
 }
@@ -100,8 +100,8 @@ fn add_diamond(alloc: Global, headers: &mut Headers, letter: &str, level: u32) -
 pub fn diamonds(alloc: Global, headers: &mut Headers, text: &str) -> Result<&'static str> {
     let levels = number(text);
     for step in 0..levels {
-        add_diamond(alloc, headers, "L", step + 1)?;
-        add_diamond(alloc, headers, "R", step + 1)?;
+        add_diamond(alloc, headers, "left", step + 1)?;
+        add_diamond(alloc, headers, "right", step + 1)?;
     }
     Ok("added")
 }
