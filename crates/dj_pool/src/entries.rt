@@ -35,7 +35,8 @@ fn utf8_at(
             end,
             BrokenKind::Units,
         ))),
-        Err(NameFault::Memory(_) | NameFault::BadDescriptor(_)) => Err(Stop::Memory),
+        Err(NameFault::Memory(_)) => Err(Stop::Memory),
+        Err(NameFault::BadDescriptor(_)) => unreachable!(),
     }
 }
 
