@@ -4,7 +4,7 @@
 #![tactic(auto)]
 
 use anyhow::Result;
-use dj_class::{BrokenKind, ClassFault, read_class};
+use dj_class::{ClassFault, read_class};
 use std::alloc::Global;
 use std::io;
 use std::io::{BufRead, BufReader, BufWriter, Write};
@@ -12,26 +12,10 @@ use std::io::{BufRead, BufReader, BufWriter, Write};
 /// The oldest major version that is read.
 const OLDEST: u16 = 50;
 
-fn kind_word(kind: BrokenKind) -> &'static str {
-    match kind {
-        BrokenKind::Short => "Short",
-        BrokenKind::Magic => "Magic",
-        BrokenKind::Version => "Version",
-        BrokenKind::Tag => "Tag",
-        BrokenKind::Index => "Index",
-        BrokenKind::Units => "Units",
-        BrokenKind::Descriptor => "Descriptor",
-        BrokenKind::Trailing => "Trailing",
-        BrokenKind::Attribute => "Attribute",
-        BrokenKind::Flags => "Flags",
-    }
-}
-
 fn fault_line(alloc: Global, fault: ClassFault) -> Result<String> {
     match fault {
         ClassFault::Broken { kind, offset } => {
-            let word = kind_word(kind);
-            Ok(format!(in alloc; "{word} {offset}")?)
+            Ok(format!(in alloc; "{kind:?} {offset}")?)
         }
         ClassFault::Memory(_) => Ok(format!(in alloc; "memory")?),
     }

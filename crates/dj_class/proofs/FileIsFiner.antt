@@ -12,7 +12,8 @@ use Rattle.dj_class.specs.Members.{RawMember, member}
 use Rattle.dj_pool.specs.SharedParts.{u2, counted, attribute}
 use Rattle.dj_pool.specs.declared.entry.Entry.{Entry}
 use Rattle.dj_class.specs.declared.front.Front.{Front}
-use Rattle.dj_class.specs.FileFormat.{Own, Listed, Rest, Raw, front, plain_own, plain_listed, plain_rest, file, named, counted_in_turn, lawful_in_field, lawful_in_method, HasBodyAs, method_attributes, field, method, class_indices, IsClassIndex, lawful_own, lawful_listed, lawful_rest, sound}
+use Rattle.dj_pool.specs.PoolFormat.{IsClassIndex}
+use Rattle.dj_class.specs.FileFormat.{Own, Listed, Rest, Raw, front, plain_own, plain_listed, plain_rest, file, named, counted_in_turn, lawful_in_field, lawful_in_method, HasBodyAs, method_attributes, field, method, class_indices, lawful_own, lawful_listed, lawful_rest, sound}
 use Rattle.dj_pool.proofs.SharedAreExact.{exact-attributes}
 use Rattle.dj_pool.proofs.PoolIsFiner.{entries_plain}
 

@@ -10,10 +10,11 @@ use Rattle.dj_pool.specs.declared.fault.BrokenKind.TheVariants as kind
 use Rattle.dj_pool.specs.declared.raw.Attribute.{Attribute}
 use Rattle.dj_class.specs.Members.{RawMember, member}
 use Rattle.dj_pool.specs.SharedParts.{u2, counted, attribute}
+use Rattle.dj_pool.specs.PoolFormat.{IsClassIndex}
 use Rattle.dj_class.specs.FileFormat.{magic}
 use Rattle.dj_pool.specs.declared.entry.Entry.{Entry}
 use Rattle.dj_class.specs.declared.front.Front.{Front}
-use Rattle.dj_class.specs.FileFormat.{Own, Listed, Rest, plain_own, plain_listed, rest_of, file_of, HasClassFlags, IsClassIndex, IsSuperIndex, lawful_own}
+use Rattle.dj_class.specs.FileFormat.{Own, Listed, Rest, plain_own, plain_listed, rest_of, file_of, HasClassFlags, IsSuperIndex, lawful_own}
 
 -- the bytes of two, three and four parts in a row
 pub two_texts : (bytes r s a b : List ℕ) → bytes ≡ a ++ r → r ≡ b ++ s → bytes ≡ (a ++ (b ++ [])) ++ s

@@ -18,7 +18,7 @@ use Rattle.dj_pool.specs.SharedParts.{u2, counted, attribute}
 use Rattle.dj_pool.specs.declared.entry.Entry.{Entry}
 use Rattle.dj_class.specs.declared.front.Front.{Front}
 use Rattle.dj_pool.specs.Attributes.{contents}
-use Rattle.dj_pool.specs.PoolFormat.{HasTag, IsFieldText, IsMethodText, text_at, class_at, pool}
+use Rattle.dj_pool.specs.PoolFormat.{HasTag, IsFieldText, IsMethodText, IsClassIndex, text_at, class_at, pool}
 
 -- the flags of a class, and the indices of the class and its superclass
 pub record Own : Type 0 where
@@ -108,10 +108,6 @@ pub record HasClassFlags (flags : ℕ) : Type 0 where
   pub interface_abstract : IsBitSet flags 9 → IsBitSet flags 10
   pub interface_not_final : IsBitSet flags 9 → ¬ IsBitSet flags 4
   pub not_both : ¬ (IsBitSet flags 10 × IsBitSet flags 4)
-
--- the index is that of a class, no array
-abbrev pub IsClassIndex : List Entry → ℕ → Type 0
-IsClassIndex pool index = IsSomeAnd (class_at pool index) IsClassName
 
 -- the index leads to a class of this name
 abbrev pub LeadsTo : List Entry → ℕ → List ℕ → Type 0

@@ -7,14 +7,14 @@ ghost use Rattle.dj_class.specs.Described.{ClassOf, SpellsClass, HasFault};
 ghost use Rattle.dj_class.specs.Views.{view_class, IsBroken, GivesClass, GivesFault};
 ghost use Rattle.dj_class.specs.FileParts.{ReadsFile};
 
-use crate::copies::{copy_fields, copy_methods};
+use crate::copies::copy_methods;
 use crate::fault::{ClassFault, fault_of};
 use crate::front::read_front;
 use crate::listed::{Members, sound_at};
 use crate::method::Method;
 use crate::own::OwnNames;
 use dj_layout::Stop;
-use dj_names::{ClassName, Field, Items, copy_names};
+use dj_names::{ClassName, Field, Items, copy_fields, copy_names};
 use dj_pool::{BrokenKind, Pool};
 use std::alloc::{AllocError, Global};
 

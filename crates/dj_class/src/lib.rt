@@ -20,4 +20,5 @@ mod skipped;
 pub use class::{ClassFile, read_class};
 pub use dj_pool::{Attribute, BrokenKind, Entry, Pool, attributes_at, has_attribute};
 pub use fault::ClassFault;
+pub use flags::is_interface;
 pub use method::Method;

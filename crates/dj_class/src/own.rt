@@ -9,15 +9,15 @@ ghost use Rattle.dj_names.specs.Assignable.{object_name};
 ghost use Rattle.dj_names.specs.ClassNames.{IsClassName};
 ghost use Rattle.dj_pool.specs.declared.fault.BrokenKind.TheVariants.{Flags, Index};
 ghost use Rattle.dj_pool.specs.SharedParts.{u2};
-ghost use Rattle.dj_pool.specs.PoolFormat.{class_at};
-ghost use Rattle.dj_class.specs.FileFormat.{HasClassFlags, IsClassIndex, LeadsTo, IsSuperIndex, class_indices, lawful_own};
+ghost use Rattle.dj_pool.specs.PoolFormat.{IsClassIndex};
+ghost use Rattle.dj_class.specs.FileFormat.{HasClassFlags, LeadsTo, IsSuperIndex, class_indices, lawful_own};
 ghost use Rattle.dj_class.specs.FileParts.{DescribesOwn};
 
 use crate::flags::{are_class_flags, is_interface};
 use dj_layout::{Stop, fault_at, u16_at};
 use dj_names::{ClassName, Items, Units, is_word};
-use dj_pool::{BrokenKind, Pool, class_text_at};
-use std::alloc::{AllocError, Global};
+use dj_pool::{BrokenKind, Pool, class_name_of, class_text_at, is_class_index};
+use std::alloc::Global;
 
 /// The flags of a class, and the names of the class and its superclass.
 #[derive(Drop)]
@@ -38,13 +38,6 @@ fn class_name_at(pool: &Pool, index: u16) -> Option<&Units>
         return None;
     }
     pool.text_at(name)
-}
-
-/// Whether an index is that of a class, no array.
-fn is_class_index(pool: &Pool, index: u16) -> bool
-    ensures exact { IsTrue result ↔ IsClassIndex pool.now index }
-{
-    class_name_at(pool, index).is_some()
 }
 
 /// Whether an index leads to the class java/lang/Object.
@@ -119,16 +112,6 @@ fn super_at<'a>(
     Ok((index, rest))
 }
 
-/// The name that an index leads to, if it leads to one.
-fn name_of(alloc: Global, pool: &Pool, index: u16) -> Result<Option<ClassName>, AllocError>
-    ensures name { IfOk result (λ name. name ≡ class_at pool.now index) }
-{
-    match class_text_at(pool, index) {
-        Some(units) => Ok(Some(ClassName::new(units.copy(alloc)?))),
-        None => Ok(None),
-    }
-}
-
 /// Flags, class and superclass.
 pub fn own_at<'a>(
     alloc: Global,
@@ -142,7 +125,7 @@ pub fn own_at<'a>(
     let ((this_class, name), rest) = class_at(pool, rest, end)?;
     let (super_class, rest) = super_at(pool, flags, this_class, rest, end)?;
     let this_class = ClassName::new(name.copy(alloc)?);
-    let super_class = name_of(alloc, pool, super_class)?;
+    let super_class = class_name_of(alloc, pool, super_class)?;
     Ok((
         OwnNames {
             flags,

@@ -1,9 +1,9 @@
 -- Reading the parts of the content of a Code attribute.
-use Rattle.std.proofs.Common.{◌≡◌, ℕ, List, [], ◌++◌, refl, append_assoc}
-use Rattle.std.proofs.lemmas.List.{append-nil}
+use Rattle.std.proofs.Common.{ℕ, List, refl}
 use Rattle.dj_layout.specs.Layout.{Spells}
 use Rattle.dj_pool.specs.SharedParts.{u2, counted, attribute}
 use Rattle.dj_class.proofs.RestParts.{four_texts}
+use Rattle.dj_instructions.proofs.PartTexts.{five_parts}
 use Rattle.dj_code.specs.declared.content.RawHandler.{RawHandler}
 use Rattle.dj_code.specs.declared.content.CodeContent.{CodeContent}
 use Rattle.dj_code.specs.CodeContent.{code, handler, content}
@@ -15,11 +15,6 @@ spells_handler bytes behind_start behind_end behind_target rest h p q r s = reco
   fits = (p.fits, (q.fits, (r.fits, (s.fits, refl))));
   text = four_texts bytes behind_start behind_end behind_target rest (u2.spell h.start) (u2.spell h.end) (u2.spell h.target) (u2.spell h.class) p.text q.text r.text s.text;
 }
-
--- five parts, one after the other
-five_parts : (a b c d e bytes behind_a behind_b behind_c behind_d rest : List ℕ) → bytes ≡ a ++ behind_a → behind_a ≡ b ++ behind_b → behind_b ≡ c ++ behind_c → behind_c ≡ d ++ behind_d → behind_d ≡ e ++ rest
-    → bytes ≡ (a ++ (b ++ (c ++ (d ++ (e ++ []))))) ++ rest
-five_parts a b c d e bytes behind_a behind_b behind_c behind_d rest p q r s t = rw (p, q, r, s, t) (simp (append_assoc, append-nil))
 
 -- the parts of the content of a Code attribute are there
 pub spells_content : (bytes behind_max_stack behind_max_locals behind_code behind_handlers rest : List ℕ) (c : CodeContent)

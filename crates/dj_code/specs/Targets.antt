@@ -2,8 +2,7 @@
 use Rattle.std.specs.Prelude.{◌≡◌, ◌⊎◌, ℕ, ◌<◌, ◌≤◌, ◌==◌, if◌then◌else◌, List, [], ◌∷◌, map, All, Any, Option, None, IsSome}
 use Rattle.dj_names.specs.Headers.{Name}
 use Rattle.dj_pool.specs.declared.entry.Entry.{Entry}
-use Rattle.dj_pool.specs.PoolFormat.{class_at}
-use Rattle.dj_class.specs.FileFormat.{IsClassIndex}
+use Rattle.dj_pool.specs.PoolFormat.{class_at, IsClassIndex}
 use Rattle.dj_instructions.specs.Instructions.{Instruction, Instructions, instruction_at, Nop, PushNull, Push, PushClass, PushHandle, PushMethodType, Load, Store, ArrayLoad, ArrayStore, Pop, Pop2, Dup, DupX1, DupX2, Dup2, Dup2X1, Dup2X2, Swap, Calc, Iinc, Convert, Compare, IfZero, IfInts, IfRefs, IfNull, Goto, TableSwitch, LookupSwitch, Return, GetStatic, PutStatic, GetField, PutField, InvokeVirtual, InvokeSpecial, InvokeStatic, InvokeInterface, InvokeDynamic, New, NewArray, MultiNewArray, ArrayLength, Throw, CheckCast, InstanceOf, MonitorEnter, MonitorExit}
 use Rattle.dj_code.specs.declared.content.RawHandler.{RawHandler}
 use Rattle.dj_code.specs.declared.method_code.Handler.{Handler}

@@ -1,9 +1,6 @@
 //! Whether the exception table is right (JVMS 4.7.3).
 
 ghost use Rattle.std.specs.Prelude.{◌≡◌, ◌↔◌, All, IsTrue, IfOk, MatchOption, map};
-ghost use Rattle.std.specs.Option.{option_copied};
-ghost use Rattle.dj_pool.specs.PoolFormat.{class_at};
-ghost use Rattle.dj_class.specs.FileFormat.{IsClassIndex};
 ghost use Rattle.dj_instructions.specs.Instructions.{view_instructions, IsRising};
 ghost use Rattle.dj_code.specs.Targets.{IsLeast, LeadsRight, RangesRight, StartsWrong, class_taken, handler_of};
 
@@ -11,8 +8,8 @@ use crate::content::RawHandler;
 use crate::method_code::Handler;
 use crate::targets::least_wrong;
 use dj_instructions::{Instruction, is_start};
-use dj_names::{ClassName, Items, Units};
-use dj_pool::Pool;
+use dj_names::{ClassName, Items};
+use dj_pool::{Pool, class_name_of, is_class_index};
 use std::alloc::{AllocError, Global};
 
 /// Whether an entry's handler is an instruction.
@@ -34,27 +31,6 @@ pub fn wrong_target(instructions: &[(u32, Instruction)], handlers: &[RawHandler]
         least = least_wrong(right, least, u32::from(handler.start));
     }
     least
-}
-
-/// The units that the Class entry at an index leads to.
-fn class_text_at(pool: &Pool, index: u16) -> Option<&Units>
-    ensures class { option_copied result ≡ class_at pool.now index }
-{
-    let name = pool.entry_at(index)?.class_name()?;
-    pool.text_at(name)
-}
-
-/// Whether the index is that of a class, no array.
-fn is_class_index(pool: &Pool, index: u16) -> bool
-    ensures exact { IsTrue result ↔ IsClassIndex pool.now index }
-{
-    match pool.entry_at(index) {
-        Some(entry) => match entry.class_name() {
-            Some(name) => pool.is_class_name_at(name),
-            None => false,
-        },
-        None => false,
-    }
 }
 
 /// Whether an entry's range and class are right in code of this size.
@@ -98,10 +74,7 @@ fn class_taken(alloc: Global, pool: &Pool, index: u16) -> Result<Option<ClassNam
     if index == 0 {
         return Ok(None);
     }
-    match class_text_at(pool, index) {
-        Some(units) => Ok(Some(ClassName::new(units.copy(alloc)?))),
-        None => Ok(None),
-    }
+    class_name_of(alloc, pool, index)
 }
 
 /// The entries of an exception table with the classes that they take.

@@ -1,6 +1,6 @@
 //! The reader of a method's code (JVMS 4.7.3, 4.9.1).
 
-ghost use Rattle.std.specs.Prelude.{◌≡◌, ◌≤◌, ◌↔◌, ℕ, Some, IsSome, IsSomeAnd, IsTrue, IsBitSet, IfOk, IfErr, MatchOption, length, map, slice_get};
+ghost use Rattle.std.specs.Prelude.{◌≡◌, ◌≤◌, ℕ, Some, IsSome, IsSomeAnd, IfOk, IfErr, MatchOption, length, map, slice_get};
 ghost use Rattle.dj_class.specs.Views.{view_class, view_method};
 ghost use Rattle.dj_instructions.specs.declared.kinds.BadKind as kinds;
 ghost use Rattle.dj_instructions.specs.Instructions.{view_instructions, IsRising};
@@ -17,14 +17,12 @@ use crate::fault::CodeFault;
 use crate::method_code::Code;
 use crate::ranges::{handlers_of, wrong_range, wrong_target};
 use crate::targets::wrong_jump;
-use dj_class::{ClassFile, Method, Pool};
+use dj_class::{ClassFile, Method, Pool, is_interface};
 use dj_frames::{Frame, read_frames};
 use dj_instructions::{BadKind, Instruction, read_instructions};
 use dj_layout::Stop;
 use dj_names::{Items, copy_names};
 use std::alloc::{AllocError, Global};
-
-const INTERFACE: u16 = 0x200;
 
 /// The content of a Code.
 fn content_of(alloc: Global, bytes: &[u8]) -> Result<CodeContent, CodeFault>
@@ -128,13 +126,6 @@ fn frames_of(
     }
 }
 
-/// Whether the flags are an interface's.
-fn is_interface(flags: u16) -> bool
-    ensures exact { IsTrue result ↔ IsBitSet flags 9 }
-{
-    flags & INTERFACE != 0
-}
-
 /// Code of a method, from its parts.
 fn code_with(
     alloc: Global,
@@ -184,7 +175,7 @@ fn code_of(
 
 /// The code of a method that has code, or its first fault.
 pub fn read_code_of(alloc: Global, class: &ClassFile, method: &Method) -> Result<Code, CodeFault>
-    requires { IsSome method.now.code }
+    requires body { IsSome method.now.code }
     // What is read is the code of the method.
     ensures read { IfOk result (λ code. SpellsCode (view_class class.now) (view_method method.now) (view_code code)) }
     // A fault is the first one of the code.
@@ -202,7 +193,7 @@ pub fn read_code_of(alloc: Global, class: &ClassFile, method: &Method) -> Result
 
 /// The code of the method with this number, which has code, or its first fault.
 pub fn read_code(alloc: Global, class: &ClassFile, method: usize) -> Result<Code, CodeFault>
-    requires { IsSomeAnd (slice_get class.now.methods method) (λ one. IsSome one.code) }
+    requires body { IsSomeAnd (slice_get class.now.methods method) (λ one. IsSome one.code) }
     // What is read is the code of the method.
     ensures read { IfOk result (λ code. IsSomeAnd (slice_get (view_class class.now).methods method) (λ one. SpellsCode (view_class class.now) one (view_code code))) }
     // A fault is the first one of the code.

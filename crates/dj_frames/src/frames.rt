@@ -1,8 +1,7 @@
 //! The frames of a method (JVMS 4.7.3, 4.7.4).
 
-ghost use Rattle.std.specs.Prelude.{◌≡◌, ◌↔◌, ◌∷◌, [], ℕ, List, Ok, Err, Some, IsTrue, MatchOption, codes};
+ghost use Rattle.std.specs.Prelude.{◌≡◌, ◌∷◌, [], ℕ, List, Ok, Err, MatchOption, codes};
 ghost use Rattle.dj_layout.specs.Whole.{Gives};
-ghost use Rattle.dj_pool.specs.PoolFormat.{text_at};
 ghost use Rattle.dj_pool.specs.Attributes.{contents};
 ghost use Rattle.dj_class.specs.Views.{view_method};
 ghost use Rattle.dj_instructions.specs.declared.kinds.BadKind.TheVariants as kind;
@@ -17,27 +16,18 @@ use crate::table::{fault_behind, read_table};
 use dj_class::{Attribute, ClassFile, Method, Pool, has_attribute};
 use dj_instructions::{BadKind, Instruction};
 use dj_layout::Stop;
-use dj_names::{Items, is_word};
+use dj_names::Items;
+use dj_pool::is_name;
 use std::alloc::Global;
 
 const NAME: &str = "StackMapTable";
-
-/// Whether the text at an index is the name of the tables.
-fn is_table(pool: &Pool, name: u16) -> bool
-    ensures exact { IsTrue result ↔ (text_at pool.now name ≡ Some (codes "StackMapTable")) }
-{
-    match pool.text_at(name) {
-        Some(units) => is_word(units.as_slice(), NAME),
-        None => false,
-    }
-}
 
 /// The content of the first table, and the attributes behind it.
 fn first_table<'a>(pool: &Pool, attributes: &'a [Attribute]) -> Option<(&'a [u8], &'a [Attribute])>
     ensures first { MatchOption result (contents pool.now (codes "StackMapTable") attributes.now ≡ []) (λ x. contents pool.now (codes "StackMapTable") attributes.now ≡ x.0.now ∷ contents pool.now (codes "StackMapTable") x.1.now) }
 {
     for (place, attribute) in attributes.iter().enumerate() {
-        if is_table(pool, attribute.name) {
+        if is_name(pool, attribute.name, NAME) {
             return Some((attribute.content.as_slice(), &attributes[place + 1..]));
         }
     }

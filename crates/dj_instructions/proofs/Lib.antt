@@ -3,6 +3,7 @@ pub mod RawIsExact
 pub mod ListingIsOne
 pub mod PoolLookups
 pub mod Meant
+pub mod PartTexts
 pub mod SwitchReading
 pub mod OperandReading
 pub mod OpcodeReading

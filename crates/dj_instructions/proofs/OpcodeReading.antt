@@ -14,6 +14,7 @@ use Rattle.dj_instructions.specs.RawInstructions.{Raw, Plain, form_of, opcode_of
 use Rattle.dj_instructions.specs.AloneOpcodes.{alone}
 use Rattle.dj_instructions.specs.Reads.{HasAnswer}
 use Rattle.dj_instructions.proofs.Meant.{known}
+use Rattle.dj_instructions.proofs.PartTexts.{one_part}
 
 -- ---- behind an opcode
 
@@ -24,9 +25,6 @@ unknown_read pool pc op bytes is = rw is record { value = Plain op 0 0; spells =
 -- an opcode that stands alone
 pub alone_read : (pool : List Entry) (pc op : ℕ) (bytes : List ℕ) (found : Option Instruction) → form_of op ≡ form.Alone → found ≡ alone op → SpellsSome (behind pc op (form_of op)) (HasAnswer pool pc) bytes found bytes
 alone_read pool pc op bytes found is means = rw is record { value = Plain op 0 0; spells = record { fits = refl; text = refl }; means = rw (is, means) (known pool (alone op)) }
-
-one_part : (a bytes rest : List ℕ) → bytes ≡ a ++ rest → bytes ≡ (a ++ []) ++ rest
-one_part a bytes rest p = rw p (simp (append_assoc, append-nil))
 
 -- operands of a form of their own
 pub own_form : {A X : Type 0} (pool : List Entry) (pc : ℕ) (part : Layout BadKind A) (of : Raw → A) (to : A → Raw) (meant : A → Option Instruction) (view : X → Option Instruction × List ℕ) (end : ℕ) (bytes : List ℕ) (result : Result X (Stop BadKind))

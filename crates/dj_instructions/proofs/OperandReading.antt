@@ -16,10 +16,7 @@ use Rattle.dj_instructions.specs.PoolNames.{Finds}
 use Rattle.dj_instructions.specs.PoolMeanings.{IsMeant}
 use Rattle.dj_instructions.specs.Meanings.{plain, widened_load, wide}
 use Rattle.dj_instructions.specs.Reads.{HasAnswer}
-
--- one part
-one_part : (a bytes rest : List ℕ) → bytes ≡ a ++ rest → bytes ≡ (a ++ []) ++ rest
-one_part a bytes rest p = rw p (simp (append_assoc, append-nil))
+use Rattle.dj_instructions.proofs.PartTexts.{one_part, two_parts}
 
 -- a number behind an opcode is there
 pub one_read : (pool : List Entry) (pc op : ℕ) (of : Form) (part : Layout BadKind ℕ) (x : ℕ) (bytes rest : List ℕ) (found : Option Instruction) → form_of op ≡ of → Spells part bytes x rest
@@ -29,9 +26,6 @@ one_read pool pc op of part x bytes rest found is spells meant = record {
   spells = record { fits = (spells.fits, refl); text = one_part (part.spell x) bytes rest spells.text };
   means = rw is meant;
 }
-
-two_parts : (a b bytes mid rest : List ℕ) → bytes ≡ a ++ mid → mid ≡ b ++ rest → bytes ≡ (a ++ (b ++ [])) ++ rest
-two_parts a b bytes mid rest p q = rw (p, q) (simp (append_assoc, append-nil))
 
 -- two numbers behind an opcode are there
 pub two_read : (pool : List Entry) (pc op : ℕ) (of : Form) (part other : Layout BadKind ℕ) (x y : ℕ) (bytes mid rest : List ℕ) (found : Option Instruction) → form_of op ≡ of → Spells part bytes x mid → Spells other mid y rest

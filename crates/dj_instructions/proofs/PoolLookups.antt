@@ -5,21 +5,14 @@ use Rattle.std.proofs.lemmas.Bool.Decides.{nat_tests}
 use Rattle.dj_names.specs.declared.types.JType as code
 use Rattle.dj_names.specs.declared.descriptor.Descriptor as code_descriptor
 use Rattle.dj_names.specs.declared.descriptor.Descriptor.TheVariants as variants
-use Rattle.dj_names.specs.Types.{JType, Boolean, Byte, Char, Short, Int, Long, Float, Double, Class, Array, Descriptor, Field, view_type, view_descriptor}
+use Rattle.dj_names.specs.Types.{JType, Boolean, Byte, Char, Short, Int, Long, Float, Double, Class, Array, Descriptor, Field, view_type}
 use Rattle.dj_names.specs.Descriptors.{dimensions, SpellsDescriptor}
-use Rattle.dj_names.proofs.DescriptorLemmas.{one_spelled}
 use Rattle.dj_pool.specs.declared.entry.Entry.{Entry}
 use Rattle.dj_pool.specs.PoolFormat.{text_at}
 use Rattle.dj_pool.specs.PoolTable.{IsReadOf}
+use Rattle.dj_pool.proofs.PoolTexts.{read_is}
 use Rattle.dj_instructions.specs.PoolNames.{Finds, IsTypeNamed}
 use Rattle.dj_instructions.specs.PoolParts.{NamesArray, NamesClass}
-
--- ---- descriptors
-
--- what a text is read as is what it is
-read_same : (units : Option (List ℕ)) (found : code_descriptor.Descriptor) (d : Descriptor) → IsReadOf units (Some found) → IsSomeAnd units (λ these. SpellsDescriptor these d) → view_descriptor found ≡ d
-read_same None found d read is = absurd is
-read_same (Some these) found d read is = one_spelled these (view_descriptor found) d read is
 
 -- ---- types
 
@@ -30,7 +23,7 @@ unread_array pool index none = λ type h. none (Field type) h.spelled
 -- nor is a method's
 pub method_array : (pool : List Entry) (index : ℕ) (found : code_descriptor.Descriptor) (parameters : List code.JType) (result : Option code.JType) → found ≡ variants.Method parameters result → IsReadOf (text_at pool index) (Some found)
     → Finds (NamesArray pool index) None
-method_array pool index found parameters result is read = λ type h. let e = rw is at (read_same (text_at pool index) found (Field type) read h.spelled) in absurd cc
+method_array pool index found parameters result is read = λ type h. let e = rw is at (read_is (text_at pool index) found (Field type) read h.spelled) in absurd cc
 
 some_dimension : (n : ℕ) → false ≡ nat_le 1 n → 1 ≤ n → ⊥
 some_dimension n none some = absurd (grind (arith, nat_tests))
@@ -39,7 +32,7 @@ some_dimension n none some = absurd (grind (arith, nat_tests))
 pub flat_array : (pool : List Entry) (index : ℕ) (found : code_descriptor.Descriptor) (kind : code.JType) (has : Bool) → found ≡ variants.Field kind → IsReadOf (text_at pool index) (Some found) → has ≡ nat_le 1 (dimensions (view_type kind)) → has ≡ false
     → Finds (NamesArray pool index) None
 flat_array pool index found kind has is read tells none = λ type h.
-    let e : Field (view_type kind) ≡ Field type = rw is at (read_same (text_at pool index) found (Field type) read h.spelled) in
+    let e : Field (view_type kind) ≡ Field type = rw is at (read_is (text_at pool index) found (Field type) read h.spelled) in
     let same : view_type kind ≡ type = cc in
     some_dimension (dimensions type) (sym none ∙ tells ∙ ap (λ (t : JType). nat_le 1 (dimensions t)) same) h.array
 

@@ -11,6 +11,7 @@ use Rattle.dj_instructions.specs.Instructions.{Instruction}
 use Rattle.dj_instructions.specs.RawInstructions.{u4, padding, count_keys, pair, table, lookup}
 use Rattle.dj_instructions.specs.Jumps.{target, table_with, table_switch, lookup_with, lookup_switch}
 use Rattle.dj_instructions.specs.Reads.{target_of, case_of}
+use Rattle.dj_instructions.proofs.PartTexts.{two_parts, five_parts}
 
 -- one item more, of which is kept what a function makes of it
 pub made_more : {K A B : Type 0} (item : Layout K A) (f : A → B) (n : ℕ) (bytes rest after : List ℕ) (found pushed : List B) (x : B) → SpellsSome (times n item) (λ xs ys. ys ≡ map f xs) bytes found rest
@@ -27,10 +28,6 @@ pub kept : (bytes rest : List ℕ) (x : ℕ) (z : ℤ) → Spells u4 bytes x res
 unfolding number
 kept bytes rest x z spells is = rw is (ap (cast_signed w32) (of_z-to_z w32 x spells.fits))
 
--- two parts, one after the other
-two_parts : (a b bytes mid rest : List ℕ) → bytes ≡ a ++ mid → mid ≡ b ++ rest → bytes ≡ (a ++ (b ++ [])) ++ rest
-two_parts a b bytes mid rest p q = rw (p, q) (simp (append_assoc, append-nil))
-
 -- a key and its offset are there
 pub case_read : (pc key offset to : ℕ) (k o : ℤ) (bytes mid rest : List ℕ) → Spells u4 bytes key mid → Spells u4 mid offset rest → k ≡ cast_signed w32 key → o ≡ cast_signed w32 offset
     → to ≡ target pc (cast_signed w32 (cast_unsigned w32 o)) → SpellsSome pair (λ p case. case ≡ case_of pc p) bytes (cast_signed w32 (cast_unsigned w32 k), to) rest
@@ -44,10 +41,6 @@ case_read pc key offset to k o bytes mid rest first second k_is o_is to_is =
     }
 
 -- ---- switches
-
-five_parts : (a b c d e bytes behind_a behind_b behind_c behind_d rest : List ℕ) → bytes ≡ a ++ behind_a → behind_a ≡ b ++ behind_b → behind_b ≡ c ++ behind_c → behind_c ≡ d ++ behind_d → behind_d ≡ e ++ rest
-    → bytes ≡ (a ++ (b ++ (c ++ (d ++ (e ++ []))))) ++ rest
-five_parts a b c d e bytes behind_a behind_b behind_c behind_d rest p q r s t = rw (p, q, r, s, t) (simp (append_assoc, append-nil))
 
 -- the number of keys is that of the numbers as they stand
 pub count_is : (bytes mid rest : List ℕ) (low high n : ℕ) (l h : ℤ) → Spells u4 bytes low mid → Spells u4 mid high rest → l ≡ cast_signed w32 low → h ≡ cast_signed w32 high

@@ -2,10 +2,10 @@
 use Rattle.std.specs.Prelude.{◌≡◌, ℕ, ◌-◌, ◌==◌, nat_le, Bool, ◌&&◌, ◌||◌, not, if◌then◌else◌, List, [], ◌∷◌, slice_get, Option, Some, None, option_map, codes}
 use Rattle.std.specs.Int.{is_in_range}
 use Rattle.std.specs.Option.{option_and_then}
-use Rattle.std.specs.Str.{bytes_eq}
 use Rattle.dj_names.specs.declared.members.Constant.TheVariants as constant
 use Rattle.dj_names.specs.Types.{JType, Boolean, Byte, Char, Short, Int, Long, Float, Double, Class, Array, Descriptor, Field, Method}
 use Rattle.dj_names.specs.Descriptors.{dimensions}
+use Rattle.dj_names.specs.MethodNames.{is_constructor, is_initialiser}
 use Rattle.dj_pool.specs.declared.entry.Entry.{Entry}
 use Rattle.dj_pool.specs.declared.entry.Entry.TheVariants as entry
 use Rattle.dj_pool.specs.PoolFormat.{text_at}
@@ -100,14 +100,6 @@ access op field =
 -- an access to the field that a reference leads to
 abbrev pub access_of : ℕ → Reference → Option Instruction
 access_of op r = option_and_then (access op) (field_of r)
-
--- a constructor's name (JVMS 2.9)
-abbrev pub is_constructor : List ℕ → Bool
-is_constructor name = bytes_eq name (codes "<init>")
-
--- a static initialiser's name (JVMS 2.9)
-abbrev pub is_initialiser : List ℕ → Bool
-is_initialiser name = bytes_eq name (codes "<clinit>")
 
 -- neither the name of a constructor nor that of a static initialiser (JVMS 4.9.1)
 abbrev pub is_plain_name : List ℕ → Bool

@@ -6,35 +6,15 @@ ghost use Rattle.dj_names.specs.Types.{view_type, view_descriptor};
 ghost use Rattle.dj_pool.specs.declared.entry.Entry.TheVariants.{InvokeDynamic};
 ghost use Rattle.dj_instructions.specs.Instructions.{view_field_ref, view_method_ref, view_instruction};
 ghost use Rattle.dj_instructions.specs.PoolNames.{view_member, view_reference};
-ghost use Rattle.dj_instructions.specs.PoolMeanings.{Known, OfReference, OfMember, field_with, method_with, field_of, method_of, access, access_of, call, call_of, is_constructor, is_initialiser, is_plain_name, dynamic_call, dynamic};
+ghost use Rattle.dj_instructions.specs.PoolMeanings.{Known, OfReference, OfMember, field_with, method_with, field_of, method_of, access, access_of, call, call_of, is_plain_name, dynamic_call, dynamic};
 ghost use Rattle.dj_instructions.specs.Answers.{IsAnswer};
 
 use crate::instruction::Instruction;
 use crate::pool_names::{Member, Reference, member_at, reference_at};
 use crate::references::{FieldRef, MethodRef};
-use dj_names::{Descriptor, JType, Units};
+use dj_names::{Descriptor, JType, Units, is_constructor, is_initialiser};
 use dj_pool::{Entry, Pool};
 use std::alloc::{AllocError, Global};
-
-/// `<init>`, in units.
-const CONSTRUCTOR: [u16; 6] = [60, 105, 110, 105, 116, 62];
-
-/// `<clinit>`, in units.
-const INITIALISER: [u16; 8] = [60, 99, 108, 105, 110, 105, 116, 62];
-
-/// Whether a name is that of a constructor.
-fn is_constructor(name: &Units) -> bool
-    ensures constructor { result ≡ is_constructor name.now }
-{
-    name.as_slice() == CONSTRUCTOR.as_slice()
-}
-
-/// Whether a name is that of a static initialiser.
-fn is_initialiser(name: &Units) -> bool
-    ensures initialiser { result ≡ is_initialiser name.now }
-{
-    name.as_slice() == INITIALISER.as_slice()
-}
 
 /// Whether a name is neither.
 fn is_plain_name(name: &Units) -> bool

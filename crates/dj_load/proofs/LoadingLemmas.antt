@@ -8,6 +8,7 @@ use Rattle.std.proofs.lemmas.List.Elements.{All-push}
 use Rattle.std.proofs.lemmas.Option.{slice_get-map, slice_get-get_or}
 use Rattle.dj_outer.specs.Count.{Rose}
 use Rattle.dj_outer.specs.Files.{file_named, HasFile, with_asked}
+use Rattle.dj_outer.proofs.PutsLemmas.{rose-from}
 use Rattle.dj_load.specs.declared.loading.LoadStop.{LoadStop}
 use Rattle.dj_load.specs.declared.loading.LoadStop.TheVariants.{Fault, Over, Memory}
 use Rattle.dj_load.specs.HeldFiles.{Files, FileIs, IsFile, AreContents, most_bytes}
@@ -63,11 +64,6 @@ can_load (Some files) names contents are = (contents, are)
 
 -- ---- loads that stop
 
--- a count that rose from a greater one rose
-rose_from : (first old new : ℕ) → first ≤ old → Rose old new → Rose first new
-rose_from first old new le (inl lt) = inl (omega arith)
-rose_from first old new le (inr last) = inr last
-
 module _ (held : Option Files) (asked_old before asked_new : Option (List (List ℕ))) (names contents : List (List ℕ)) (i : ℕ) (name : List ℕ)
     (more : take (i + 1) names ≡ take i names ++ name ∷ []) (was : before ≡ asked_with asked_old (take i names)) where
   -- the names asked when the load at a place stopped
@@ -84,7 +80,7 @@ module _ (held : Option Files) (asked_old before asked_new : Option (List (List 
   stops_loading (Fault place) first old new due here loaded le at =
       let asked = asked_more asked_old before asked_new names i name more was at.2 in
       subst (ReadFails held names asked_old asked_new first new) (sym at.0)
-      (record { due = due; rose = rose_from first old new le at.1; before = can_load held (take i names) contents loaded; asked = asked })
+      (record { due = due; rose = rose-from first old new le at.1; before = can_load held (take i names) contents loaded; asked = asked })
   stops_loading (Over place) first old new due here loaded le at =
       let asked = asked_more asked_old before asked_new names i name more was at.2 in
       subst (IsTooMuch held names asked_old asked_new) (sym at.0)

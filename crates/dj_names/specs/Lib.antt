@@ -6,6 +6,7 @@ pub mod Utf8
 pub mod Faults
 pub mod Identifiers
 pub mod Sayable
+pub mod MethodNames
 pub mod Shown
 pub mod Headers
 pub mod Assignable

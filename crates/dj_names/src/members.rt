@@ -143,7 +143,7 @@ impl Member {
 }
 
 /// Equal fields, in order.
-fn copy_fields(alloc: Global, fields: &[Field]) -> Result<Items<Field>, AllocError>
+pub fn copy_fields(alloc: Global, fields: &[Field]) -> Result<Items<Field>, AllocError>
     ensures equal { IfOk result (λ copy. copy ≡ fields.now) }
 {
     let mut copy = Items::new(alloc);

@@ -39,7 +39,7 @@ pub puts-nothing : (taken : Option (List ℕ)) (faults : ℕ) → Puts (Ok tt) t
 puts-nothing taken faults = record { ok = known-nothing taken; prefix = tt; failed = tt; never_falls = omega arith }
 
 -- a count that rose from a greater one rose
-rose-from : (first old new : ℕ) → first ≤ old → Rose old new → Rose first new
+pub rose-from : (first old new : ℕ) → first ≤ old → Rose old new → Rose first new
 rose-from first old new le (inl lt) = inl (omega arith)
 rose-from first old new le (inr last) = inr last
 

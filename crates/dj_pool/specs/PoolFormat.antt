@@ -181,6 +181,10 @@ second_with tag found = if tag_of found == tag then Some (second_of found) else 
 abbrev pub class_at : List Entry → ℕ → Option (List ℕ)
 class_at pool index = option_and_then (text_at pool) (option_and_then (first_with 7) (slice_get pool index))
 
+-- the index is that of a class, no array (JVMS 4.4.1)
+abbrev pub IsClassIndex : List Entry → ℕ → Type 0
+IsClassIndex pool index = IsSomeAnd (class_at pool index) IsClassName
+
 -- the units of the descriptor that the NameAndType entry at an index leads to (JVMS 4.4.6)
 abbrev pub descriptor_behind : List Entry → ℕ → Option (List ℕ)
 descriptor_behind pool index = option_and_then (text_at pool) (option_and_then (second_with 12) (slice_get pool index))

@@ -20,4 +20,4 @@ pub use fault::BrokenKind;
 pub use pool::Pool;
 pub use pools::pool_at;
 pub use raw::{Attribute, attribute_at, attributes_at};
-pub use texts::{class_text_at, has_tag, is_method_text, is_text};
+pub use texts::{class_name_of, class_text_at, has_tag, is_class_index, is_method_text, is_text};

@@ -1,14 +1,15 @@
 //! Which kind of text an index of the pool leads to, and whether it is the kind that is asked (JVMS 4.4).
 
-ghost use Rattle.std.specs.Prelude.{◌≡◌, ◌↔◌, IsTrue, IsSome, IsSomeAnd, Some, IfSome, slice_get};
+ghost use Rattle.std.specs.Prelude.{◌≡◌, ◌↔◌, IsTrue, IsSome, IsSomeAnd, Some, IfSome, IfOk, slice_get};
 ghost use Rattle.std.specs.Option.{option_copied, option_and_then};
 ghost use Rattle.dj_names.specs.Types.{view_type};
-ghost use Rattle.dj_pool.specs.PoolFormat.{text_at, HasTag, HasReference, IsFieldText, IsMethodText, IsArrayText, IsDescriptorText, IsClassText, IsFound, LeadsRight, second_with, class_at, descriptor_behind};
+ghost use Rattle.dj_pool.specs.PoolFormat.{text_at, HasTag, HasReference, IsFieldText, IsMethodText, IsArrayText, IsDescriptorText, IsClassText, IsFound, LeadsRight, second_with, class_at, IsClassIndex, descriptor_behind};
 ghost use Rattle.dj_pool.specs.PoolTable.{is_array_type};
 
 use crate::entry::Ask;
 use crate::pool::Pool;
-use dj_names::{Descriptor, JType, Units};
+use dj_names::{ClassName, Descriptor, JType, Units};
+use std::alloc::{AllocError, Global};
 
 /// Whether an entry of this tag is at an index.
 pub fn has_tag(pool: &Pool, index: u16, tag: u8) -> bool
@@ -173,4 +174,31 @@ pub fn class_text_at(pool: &Pool, index: u16) -> Option<&Units>
 {
     let name = pool.entry_at(index)?.class_name()?;
     pool.text_at(name)
+}
+
+/// Whether an index is that of a class, no array.
+pub fn is_class_index(pool: &Pool, index: u16) -> bool
+    ensures exact { IsTrue result ↔ IsClassIndex pool.now index }
+{
+    match pool.entry_at(index) {
+        Some(entry) => match entry.class_name() {
+            Some(name) => pool.is_class_name_at(name),
+            None => false,
+        },
+        None => false,
+    }
+}
+
+/// The name that the Class entry at an index leads to, if it leads to one.
+pub fn class_name_of(
+    alloc: Global,
+    pool: &Pool,
+    index: u16,
+) -> Result<Option<ClassName>, AllocError>
+    ensures name { IfOk result (λ name. name ≡ class_at pool.now index) }
+{
+    match class_text_at(pool, index) {
+        Some(units) => Ok(Some(ClassName::new(units.copy(alloc)?))),
+        None => Ok(None),
+    }
 }

@@ -2,7 +2,8 @@ use Rattle.dj_layout.specs.Passes.{asked}
 use Rattle.dj_layout.proofs.Loops.{as_more}
 use Rattle.dj_pool.specs.declared.fault.BrokenKind.TheVariants.{Index}
 use Rattle.dj_pool.specs.SharedParts.{u2}
-use Rattle.dj_class.specs.FileFormat.{IsClassIndex, LeadsTo}
+use Rattle.dj_pool.specs.PoolFormat.{IsClassIndex}
+use Rattle.dj_class.specs.FileFormat.{LeadsTo}
 use Rattle.dj_class.proofs.own.class_list.Goals as goal
 
 pub loop-preserved : goal.loop-preserved

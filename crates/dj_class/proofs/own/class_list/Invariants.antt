@@ -4,7 +4,8 @@ use Rattle.dj_layout.specs.Parts.{times}
 use Rattle.dj_layout.specs.Passes.{asked}
 use Rattle.dj_pool.specs.declared.fault.BrokenKind.TheVariants.{Index}
 use Rattle.dj_pool.specs.SharedParts.{u2}
-use Rattle.dj_class.specs.FileFormat.{IsClassIndex, LeadsTo}
+use Rattle.dj_pool.specs.PoolFormat.{IsClassIndex}
+use Rattle.dj_class.specs.FileFormat.{LeadsTo}
 use Rattle.dj_class.proofs.own.class_list.Given as goal
 
 abbrev pub invariant-loop : goal.invariant-loop
