@@ -10,7 +10,7 @@ use dj_instructions::{Instruction, instruction_at};
 
 /// The place of the instruction at an offset, which may be larger than a pc, or that there is none.
 fn place_of(instructions: &[(u32, Instruction)], at: u64) -> Result<usize, usize>
-    requires { IsRising (view_instructions instructions.now) }
+    requires rising { IsRising (view_instructions instructions.now) }
     ensures found { IfOk result (IsPlaceOf instructions.now at) }
     ensures absent { IfErr result (λ _. IsNoPlace instructions.now at) }
 {
@@ -19,7 +19,7 @@ fn place_of(instructions: &[(u32, Instruction)], at: u64) -> Result<usize, usize
 
 /// The offset as a pc, where an instruction begins there.
 pub fn start_at(instructions: &[(u32, Instruction)], at: u64) -> Option<u32>
-    requires { IsRising (view_instructions instructions.now) }
+    requires rising { IsRising (view_instructions instructions.now) }
     ensures start { MatchOption result (¬ IsSome (instruction_at (view_instructions instructions.now) at)) (λ pc. (pc ≡ at) × IsSome (instruction_at (view_instructions instructions.now) at)) }
 {
     match place_of(instructions, at) {
@@ -37,7 +37,7 @@ fn is_new(instruction: &Instruction) -> bool
 
 /// Whether a `new` begins at a pc.
 pub fn is_new_at(instructions: &[(u32, Instruction)], pc: u32) -> bool
-    requires { IsRising (view_instructions instructions.now) }
+    requires rising { IsRising (view_instructions instructions.now) }
     ensures exact { IsTrue result ↔ IsNewAt (view_instructions instructions.now) pc }
 {
     match instruction_at(instructions, pc) {

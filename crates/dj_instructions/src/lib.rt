@@ -25,6 +25,5 @@ pub use instruction::Instruction;
 pub use kinds::{BadKind, Calc, Element, Kind, Test};
 pub use listing::read_instructions;
 pub use lookup::{instruction_at, is_start};
-pub use pool_names::{Member, Reference, descriptor_at, member_at, reference_at, type_of_class};
+pub use pool_names::type_of_class;
 pub use references::{FieldRef, MethodRef};
-pub use types::has_dimensions;

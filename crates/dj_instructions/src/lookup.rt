@@ -9,7 +9,7 @@ use crate::instruction::Instruction;
 
 /// The place of the instruction at a pc, or that there is none.
 fn place_of(instructions: &[(u32, Instruction)], pc: u32) -> Result<usize, usize>
-    requires { IsRising (view_instructions instructions.now) }
+    requires rising { IsRising (view_instructions instructions.now) }
     ensures found { IfOk result (IsPlaceOf instructions.now pc) }
     ensures absent { IfErr result (λ _. IsNoPlace instructions.now pc) }
 {
@@ -18,7 +18,7 @@ fn place_of(instructions: &[(u32, Instruction)], pc: u32) -> Result<usize, usize
 
 /// The instruction that begins at a pc.
 pub fn instruction_at(instructions: &[(u32, Instruction)], pc: u32) -> Option<&Instruction>
-    requires { IsRising (view_instructions instructions.now) }
+    requires rising { IsRising (view_instructions instructions.now) }
     ensures found { option_map view_instruction (option_copied result) ≡ instruction_at (view_instructions instructions.now) pc }
 {
     match place_of(instructions, pc) {
@@ -29,7 +29,7 @@ pub fn instruction_at(instructions: &[(u32, Instruction)], pc: u32) -> Option<&I
 
 /// Whether an instruction begins at a pc.
 pub fn is_start(instructions: &[(u32, Instruction)], pc: u32) -> bool
-    requires { IsRising (view_instructions instructions.now) }
+    requires rising { IsRising (view_instructions instructions.now) }
     ensures start { IsTrue result ↔ IsSome (instruction_at (view_instructions instructions.now) pc) }
 {
     instruction_at(instructions, pc).is_some()
