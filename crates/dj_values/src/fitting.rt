@@ -10,7 +10,7 @@ ghost use Rattle.dj_values.specs.Answers.{IsNewArray, IsTrapped};
 
 use crate::reference::RefValue;
 use crate::types::{
-    MOST, goes_to_object, innermost, is_array, is_class, is_in_range, is_length_of,
+    MAX_LENGTH, goes_to_object, innermost, is_array, is_class, is_in_range, is_length_of,
 };
 use crate::value::Value;
 use dj_headers::{Headers, is_reference, is_subtype};
@@ -92,7 +92,7 @@ pub fn is_new_array(kind: &JType, sizes: &[i32], reference: &RefValue) -> bool
     is_array(kind)
         && same_type(&reference.class, kind)
         && is_first_size(sizes, reference.length)
-        && reference.length <= MOST
+        && reference.length <= MAX_LENGTH
 }
 
 /// Whether a reference is an exception.

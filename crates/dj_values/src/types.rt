@@ -9,7 +9,7 @@ use dj_headers::Headers;
 use dj_names::{ClassName, JType};
 
 /// The greatest length of an array.
-pub const MOST: u32 = 2_147_483_647;
+pub const MAX_LENGTH: u32 = 2_147_483_647;
 
 /// Whether the type is an array's.
 pub fn is_array(kind: &JType) -> bool
@@ -61,7 +61,7 @@ pub fn is_length_of(class: &JType, length: u32) -> bool
         JType::Float => false,
         JType::Double => false,
         JType::Class(_) => length == 0,
-        JType::Array(_) => length <= MOST,
+        JType::Array(_) => length <= MAX_LENGTH,
     }
 }
 
