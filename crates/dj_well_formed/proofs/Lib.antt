@@ -1,3 +1,4 @@
+pub mod EmptyLists
 pub mod HelperNames
 pub mod ListTests
 pub mod SameLists

@@ -1,0 +1,23 @@
+-- What the functions here, and the parser above, promise, in reading order.
+pub mod Words
+pub mod Names
+pub mod Tokens
+pub mod Literals
+pub mod LiteralViews
+pub mod Dotted
+pub mod Frames
+pub mod Readings
+pub mod Brackets
+pub mod Steps
+pub mod Views
+pub mod Open
+pub mod Blocks
+pub mod StatementEnds
+pub mod Braces
+pub mod LastStatements
+pub mod Statements
+pub mod Values
+pub mod Members
+pub mod Units
+pub mod Parsing
+pub mod OpenViews
