@@ -1,6 +1,0 @@
-use Rattle.std.proofs.Common.{◌≡◌, drop}
-use Rattle.dj_words.specs.Literals.{are_digits}
-use Rattle.dj_words.proofs.literals.are_digits.Given as goal
-
-abbrev pub invariant-loop-digit : goal.invariant-loop-digit
-invariant-loop-digit l = are_digits (drop l.digit-index l.word) ≡ are_digits l.word

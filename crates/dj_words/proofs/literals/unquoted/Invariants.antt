@@ -1,7 +1,0 @@
-use Rattle.std.proofs.Common.{◌≡◌, drop}
-use Rattle.dj_words.specs.Literals.{read_quotation}
-use Rattle.dj_words.specs.LiteralViews.{view_quotation}
-use Rattle.dj_words.proofs.literals.unquoted.Given as goal
-
-abbrev pub invariant-loop-character : goal.invariant-loop-character
-invariant-loop-character l = read_quotation (view_quotation l.quotation) (drop l.character-index l.word) ≡ read_quotation (view_quotation l.initial.quotation) l.word
