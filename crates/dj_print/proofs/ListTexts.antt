@@ -120,8 +120,8 @@ arguments_more names (y ∷ ys) x =
     let later = flat_map (later_items names) ys in
     let last = later_items names x in
     let whole : arguments_items names (view_exps (y ∷ ys ++ x ∷ [])) ≡ (first ++ later) ++ last =
-        ap (λ rest. first ++ rest) (later_flat names (ys ++ x ∷ []) ∙ flat_map-append (later_items names) ys (x ∷ []) ∙ ap (λ rest. later ++ rest) (append-nil last))
-        ∙ sym (append_assoc first later last) in
+    ap (λ rest. first ++ rest) (later_flat names (ys ++ x ∷ []) ∙ flat_map-append (later_items names) ys (x ∷ []) ∙ ap (λ rest. later ++ rest) (append-nil last))
+    ∙ sym (append_assoc first later last) in
     ap render whole ∙ flat_map-append item_text (first ++ later) last ∙ ap (λ rest. render (first ++ rest) ++ render last) (sym (later_flat names ys))
     ∙ ap (λ comma. render (arguments_items names (view_exps (y ∷ ys))) ++ (comma ++ render (exp_items names (view_exp x)))) (sym (comma_later (length (y ∷ ys)) (omega arith)))
 

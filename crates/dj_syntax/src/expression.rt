@@ -3,7 +3,6 @@
 mod copied;
 
 pub use crate::expression::copied::{copy_boxed, copy_exps, copy_name, copy_option};
-
 use crate::operator::Op;
 use crate::variable::Var;
 use dj_names::{Boxed, ClassName, Items, JType, Units};

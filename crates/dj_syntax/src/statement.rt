@@ -2,9 +2,8 @@
 
 mod copied;
 
-pub use crate::statement::copied::copy_list;
-
 use crate::expression::Exp;
+pub use crate::statement::copied::copy_list;
 use crate::variable::Var;
 use dj_names::{Boxed, ClassName, Items, JType, Units};
 

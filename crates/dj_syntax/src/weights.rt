@@ -22,7 +22,10 @@ pub fn weight(statement: &Stm) -> u64
         Stm::SetElement(array, index, value) => more(1, more(weight_exp(array), two(index, value))),
         Stm::Run(call) => more(1, weight_exp(call)),
         Stm::If(test, first, second) => {
-            let lists = more(weight_list(first.as_slice()), weight_list(second.as_slice()));
+            let lists = more(
+                weight_list(first.as_slice()),
+                weight_list(second.as_slice()),
+            );
             more(1, more(weight_exp(test), lists))
         }
         Stm::While(test, body) => more(1, more(weight_exp(test), weight_list(body.as_slice()))),
@@ -46,7 +49,10 @@ pub fn weight(statement: &Stm) -> u64
             more(1, more(weight_exp(test), rest))
         }
         Stm::Finally(body, last) => {
-            more(1, more(weight_list(body.as_slice()), weight_list(last.as_slice())))
+            more(
+                1,
+                more(weight_list(body.as_slice()), weight_list(last.as_slice())),
+            )
         }
     }
 }
@@ -108,7 +114,10 @@ fn weight_exp(exp: &Exp) -> u64
             more(1, more(weight_exp(first.get()), weight_exp(second.get())))
         }
         Exp::Call(object, _, arguments) => {
-            more(1, more(weight_exp(object.get()), weight_exps(arguments.as_slice())))
+            more(
+                1,
+                more(weight_exp(object.get()), weight_exps(arguments.as_slice())),
+            )
         }
         Exp::StaticCall(_, _, list)
         | Exp::SuperCall(_, _, list)

@@ -97,10 +97,8 @@ pub fn is_call(exp: &Exp) -> bool
     ensures call { result ≡ is_call (view_exp exp.now) }
 {
     match exp {
-        Exp::Call(_, _, _)
-        | Exp::StaticCall(_, _, _)
-        | Exp::SuperCall(_, _, _)
-        | Exp::New(_, _) => true,
+        Exp::Call(_, _, _) | Exp::StaticCall(_, _, _) | Exp::SuperCall(_, _, _) | Exp::New(_, _) =>
+            true,
         Exp::Int(_)
         | Exp::Long(_)
         | Exp::Text(_)

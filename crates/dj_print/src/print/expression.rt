@@ -15,11 +15,10 @@ use crate::print::expression::parts::{
     above, cast_type, class_literal, comma, long, member, new_class, new_type, operator, pairs,
     tested_type, truth,
 };
+pub use crate::print::expression::parts::{assigned, int, member_of_class};
 use crate::print::text::{quoted, variable};
 use dj_names::Units;
 use dj_syntax::{Exp, Shape, Unit};
-
-pub use crate::print::expression::parts::{assigned, int, member_of_class};
 
 /// Prints an expression.
 #[cycle(expression)]

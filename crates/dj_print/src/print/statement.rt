@@ -15,13 +15,12 @@ use crate::out::Out;
 use crate::print::statement::parts::{
     cases, caught, deeper, do_test, for_head, headed, is_empty, jump, labelled, rethrow,
 };
+pub use crate::print::statement::stores::first_value;
 use crate::print::statement::stores::{
     construct, declare, return_value, run, set, set_element, set_field, set_static, throw,
 };
 use crate::print::text::line;
 use dj_syntax::{Catch, Group, Stm, Unit};
-
-pub use crate::print::statement::stores::first_value;
 
 /// Prints a statement from its first word on; its further lines stand at this level.
 #[cycle(statement)]

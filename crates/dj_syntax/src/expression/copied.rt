@@ -170,12 +170,7 @@ fn copy_new(alloc: Global, class: &ClassName, arguments: &[Exp]) -> Result<Exp, 
 }
 
 #[cycle(copy)]
-fn copy_new_array(
-    alloc: Global,
-    sizes: &[Exp],
-    kind: &JType,
-    more: u32,
-) -> Result<Exp, AllocError>
+fn copy_new_array(alloc: Global, sizes: &[Exp], kind: &JType, more: u32) -> Result<Exp, AllocError>
     ensures equal { IfOk result (λ copy. copy ≡ exp.NewArray kind.now sizes.now more) }
 {
     let sizes = copy_exps(alloc, sizes)?;

@@ -138,12 +138,7 @@ fn copy_set(alloc: Global, variable: Var, value: &Exp) -> Result<Stm, AllocError
     Ok(Stm::Set(variable, value.copy(alloc)?))
 }
 
-fn copy_set_field(
-    alloc: Global,
-    object: &Exp,
-    name: &Units,
-    value: &Exp,
-) -> Result<Stm, AllocError>
+fn copy_set_field(alloc: Global, object: &Exp, name: &Units, value: &Exp) -> Result<Stm, AllocError>
     ensures equal { IfOk result (λ copy. copy ≡ stm.SetField object.now name.now value.now) }
 {
     let name = name.copy(alloc)?;
@@ -165,12 +160,7 @@ fn copy_set_static(
     Ok(Stm::SetStatic(class, name, value.copy(alloc)?))
 }
 
-fn copy_set_element(
-    alloc: Global,
-    array: &Exp,
-    index: &Exp,
-    value: &Exp,
-) -> Result<Stm, AllocError>
+fn copy_set_element(alloc: Global, array: &Exp, index: &Exp, value: &Exp) -> Result<Stm, AllocError>
     ensures equal { IfOk result (λ copy. copy ≡ stm.SetElement array.now index.now value.now) }
 {
     let array = copy_boxed(alloc, array)?;
@@ -267,4 +257,3 @@ fn copy_for(
     let step = step.copy(alloc)?;
     Ok(Stm::For(test.into_inner(), variable, step, body))
 }
-
