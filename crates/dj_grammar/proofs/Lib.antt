@@ -37,3 +37,4 @@ pub mod UnitsAreRead
 pub mod ValuesAreRead
 pub mod UnitNames
 pub mod IdentifierNoModifier
+pub mod OneText
