@@ -1,5 +1,5 @@
 -- What a group of a switch is tested for, and its list with it.
-use Rattle.std.proofs.Common.{◌≡◌, ◌≢◌, ◌↔◌, ◌==◌, ◌<◌, ◌+◌, ◌-◌, ◌||◌, ℕ, ℤ, Bool, IsTrue, not, List, [], ◌∷◌, length, drop, get_or, Option, sym, subst, arith, ne_eqb}
+use Rattle.std.proofs.Common.{◌≡◌, ◌≢◌, ◌↔◌, ◌==◌, ◌<◌, ◌+◌, ◌-◌, ℕ, ℤ, Bool, not, ◌||◌, IsTrue, List, [], ◌∷◌, length, drop, get_or, Option, sym, subst, arith, ne_eqb}
 use Rattle.std.specs.List.{AllByRecursion}
 use Rattle.std.proofs.lemmas.Bool.{eq-eqb}
 use Rattle.std.proofs.lemmas.List.{length-drop}
