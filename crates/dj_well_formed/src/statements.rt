@@ -1,8 +1,9 @@
 //! Statements of a body (JLS 14).
 
-ghost use Rattle.std.specs.Prelude.{◌≡◌, ◌↔◌, IsTrue};
+ghost use Rattle.std.specs.Prelude.{◌≡◌, ◌≢◌, ◌↔◌, ◌+◌, ◌<◌, ◌||◌, [], drop, length, not, IsTrue};
 ghost use Rattle.std.specs.List.{AllByRecursion};
 ghost use Rattle.dj_syntax.specs.Trees.{view_catches, view_groups, view_stm, view_stms};
+ghost use Rattle.dj_syntax.specs.UnitText.{is_empty};
 ghost use Rattle.dj_syntax.specs.WellFormed.{AreWellFormedCatches, AreWellFormedGroups, AreWellFormedStms, IsCase, IsWellFormedStm, has_no_catch, has_no_group, is_declaration};
 
 use crate::expressions::{
@@ -101,14 +102,22 @@ fn are_well_formed_groups(list: &[Group], helper: bool) -> bool
     ensures well_formed { IsTrue result ↔ AreWellFormedGroups helper (view_groups list.now) }
 {
     for (index, group) in list.iter().enumerate() {
-        let last = index + 1 == list.len();
-        let labelled = !group.labels.is_empty() && are_cases(group.labels.as_slice());
-        let filled = !group.body.is_empty() || last;
-        if !labelled || !filled || !are_well_formed_stms(group.body.as_slice(), helper) {
+        let last = is_last(list, index);
+        if !is_well_formed_group(group, helper, last) {
             return false;
         }
     }
     true
+}
+
+/// Whether a group has a label, and unless it is the last a statement, and is well formed.
+#[cycle(statement)]
+fn is_well_formed_group(group: &Group, helper: bool, last: bool) -> bool
+    ensures well_formed { IsTrue result ↔ ((group.now.labels ≢ []) × AllByRecursion IsCase group.now.labels × IsTrue (not (is_empty (view_stms group.now.body)) || last) × AreWellFormedStms helper (view_stms group.now.body)) }
+{
+    has_cases(group.labels.as_slice())
+        && goes_on(group.body.as_slice(), last)
+        && are_well_formed_stms(group.body.as_slice(), helper)
 }
 
 /// Whether each catch clause is well formed.
@@ -169,6 +178,38 @@ fn has_no_catch(list: &[Catch]) -> bool
     ensures none { result ≡ has_no_catch (view_catches list.now) }
 {
     list.is_empty()
+}
+
+/// Whether no group is behind the one at this index.
+fn is_last(list: &[Group], index: usize) -> bool
+    requires inside { index < length list.now }
+    ensures last { result ≡ has_no_group (view_groups (drop (index + 1) list.now)) }
+{
+    index + 1 == list.len()
+}
+
+/// Whether a group may have these statements: some, unless it is the last.
+fn goes_on(body: &[Stm], last: bool) -> bool
+    ensures goes_on { result ≡ (not (is_empty (view_stms body.now)) || last) }
+{
+    !is_empty(body) || last
+}
+
+/// Whether a list has no statement.
+fn is_empty(list: &[Stm]) -> bool
+    ensures empty { result ≡ is_empty (view_stms list.now) }
+{
+    list.is_empty()
+}
+
+/// Whether there is a label, and each is one of a switch.
+fn has_cases(labels: &[Option<i32>]) -> bool
+    ensures cases { IsTrue result ↔ ((labels.now ≢ []) × AllByRecursion IsCase labels.now) }
+{
+    match labels {
+        [] => false,
+        [_, ..] => are_cases(labels),
+    }
 }
 
 /// Whether each label is one of a switch.
