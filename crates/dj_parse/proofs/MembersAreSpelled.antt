@@ -1,5 +1,5 @@
 -- Members of a plain unit, in order, are spelled as their words.
-use Rattle.std.proofs.Common.{◌≡◌, ℕ, Bool, List, [], ◌∷◌, ◌++◌, refl, ap, ◌∙◌}
+use Rattle.std.proofs.Common.{◌≡◌, ℕ, Bool, List, [], ◌∷◌, ◌++◌, is_some, refl, ap, ◌∙◌}
 use Rattle.std.specs.List.{AllByRecursion, flat_map}
 use Rattle.dj_names.specs.Identifiers.{IsIdentifier}
 use Rattle.dj_syntax.specs.Trees.{FieldText, MethodText, CompilationUnit}
@@ -30,13 +30,13 @@ fields_are_spelled spellings interface (field ∷ rest) text (plain_here, plain_
     ap words (then_text (field_items (full spellings) interface field) more text)
     ∙ field_is_spelled spellings interface field (render more ++ text) plain_here here ∙ ap (field_words interface field) (fields_are_spelled spellings interface rest text plain_there there)
 
-methods_are_spelled : {helper : Bool} (spellings : Spellings) (class : List ℕ) (interface : Bool) (methods : List MethodText) (text : List ℕ) → AllByRecursion IsPlainMethod methods → IsIdentifier spellings.own → AllByRecursion (IsWellFormedMethod interface helper class) methods
+methods_are_spelled : (helper : Bool) (spellings : Spellings) (class : List ℕ) (interface : Bool) (methods : List MethodText) (text : List ℕ) → AllByRecursion IsPlainMethod methods → IsIdentifier spellings.own → AllByRecursion (IsWellFormedMethod interface helper class) methods
     → words (render (flat_map (method_items (full spellings) interface) methods) ++ text) ≡ methods_words spellings.own interface methods (words text)
-methods_are_spelled spellings class interface [] text plain own_is formed = refl
-methods_are_spelled spellings class interface (method ∷ rest) text (plain_here, plain_there) own_is (here, there) =
+methods_are_spelled helper spellings class interface [] text plain own_is formed = refl
+methods_are_spelled helper spellings class interface (method ∷ rest) text (plain_here, plain_there) own_is (here, there) =
     let more = flat_map (method_items (full spellings) interface) rest in
     ap words (then_text (method_items (full spellings) interface method) more text)
-    ∙ method_is_spelled spellings class interface method (render more ++ text) plain_here own_is here ∙ ap (method_words spellings.own interface method) (methods_are_spelled spellings class interface rest text plain_there own_is there)
+    ∙ method_is_spelled spellings class interface method (render more ++ text) plain_here own_is here ∙ ap (method_words spellings.own interface method) (methods_are_spelled helper spellings class interface rest text plain_there own_is there)
 
 -- the words of members, in front of others
 abbrev pub members_words : CompilationUnit → Words → Words
@@ -55,4 +55,4 @@ members_are_spelled unit text plain formed =
     ∙ fields_are_spelled spellings interface unit.fields (render (helper ++ methods) ++ text) plain.fields formed.fields
     ∙ ap (λ text. fields_words interface unit.fields (words text)) (then_text helper methods text)
     ∙ ap (fields_words interface unit.fields) (helper_is_spelled unit.helper (render methods ++ text) formed.helper)
-    ∙ ap (λ after. fields_words interface unit.fields (helper_words unit.helper after)) (methods_are_spelled spellings (class_name unit) interface unit.methods text plain.methods formed.name formed.methods)
+    ∙ ap (λ after. fields_words interface unit.fields (helper_words unit.helper after)) (methods_are_spelled (is_some unit.helper) spellings (class_name unit) interface unit.methods text plain.methods formed.name formed.methods)

@@ -75,7 +75,7 @@ interfaces_keyword false text = refl
 
 -- the interfaces and the brace
 abbrev interfaces_items : CompilationUnit → List Item
-interfaces_items unit = classes_items (full (full_names unit)) (interfaces_word (is_interface unit.flags)) unit.interfaces ++ Space ∷ sign (codes "{") ∷ []
+interfaces_items unit = classes_items (full_names unit) (interfaces_word (is_interface unit.flags)) unit.interfaces ++ Space ∷ sign (codes "{") ∷ []
 
 interfaces_begin : (spellings : Spellings) (keyword : List ℕ) (names : List (List ℕ)) (text : List ℕ) → begins is_letter (render (classes_items (full spellings) keyword names ++ Space ∷ sign (codes "{") ∷ []) ++ text) ≡ false
 interfaces_begin spellings keyword [] text = refl
@@ -90,9 +90,9 @@ head_is_spelled unit text formed =
     let interface = is_interface unit.flags in
     let bits = bit_and unit.flags (class_bits interface) in
     let keyword = interfaces_word interface in
-    let supertypes = superclass_items (full (full_names unit)) unit.superclass ++ interfaces_items unit in
+    let supertypes = superclass_items (full_names unit) unit.superclass ++ interfaces_items unit in
     let ends = interfaces_begin (full_names unit) keyword unit.interfaces text in
-    let interfaces = spelled_before is_letter (classes_items (full (full_names unit)) keyword unit.interfaces) (Space ∷ sign (codes "{") ∷ []) (names_words keyword unit.interfaces) (codes "{" ∷ words text) text
+    let interfaces = spelled_before is_letter (classes_items (full_names unit) keyword unit.interfaces) (Space ∷ sign (codes "{") ∷ []) (names_words keyword unit.interfaces) (codes "{" ∷ words text) text
     (classes_are_spelled (full_names unit) keyword unit.interfaces (interfaces_keyword interface) formed.interfaces) refl refl in
     let superclass = superclass_is_spelled (full_names unit) interface unit.superclass (interfaces_items unit) (names_words keyword unit.interfaces ++ codes "{" ∷ words text) text formed.superclass ends interfaces in
     let name = word_before unit.name supertypes (supertypes_words unit (words text)) text (identifier_run unit.name formed.name) (superclass_begins (full_names unit) unit.superclass (interfaces_items unit) text ends) superclass in
