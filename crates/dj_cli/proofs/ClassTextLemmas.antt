@@ -11,8 +11,8 @@ use Rattle.dj_syntax.specs.Trees.{Exp, Body, CompilationUnit}
 use Rattle.dj_syntax.specs.UnitText.{is_initialiser, is_interface}
 use Rattle.dj_syntax.specs.WellFormed.{IsWellFormed, IsWellFormedMethod, IsWellFormedExp, IsQualified, HasMethodName, class_name, held_class, held_method}
 use Rattle.dj_syntax.proofs.MethodNames.{identifier_is_no_method_keyword, IsMethodDescriptor-ints, segments-plain, segments-append}
-use Rattle.dj_print.specs.Printable.{IsAsciiName}
-use Rattle.dj_print.proofs.WellFormedIsAscii.{ascii_qualified}
+use Rattle.dj_print.specs.Spelled.{IsAsciiName}
+use Rattle.dj_print.proofs.NamesAreAscii.{ascii_qualified}
 use Rattle.dj_unit.specs.ClassText.{IsClassText, method_text, printed_methods}
 use Rattle.dj_straight.specs.StraightMethod.{IsStraightMethod, IsBodyOf}
 
@@ -57,7 +57,7 @@ has_name method body identifier =
 
 -- the text of a straight method is well formed
 pub method_well_formed : (class : ClassOf) (before : List MethodOf) (method : MethodOf) (exp : Exp) (body : Body) → (method.flags ≡ 0x8) ⊎ (method.flags ≡ 0x9) → IsStraightMethod class before method exp → IsWellFormedExp exp → IsBodyOf class method exp body
-    → IsWellFormedMethod false class.this_class (method_text method body)
+    → IsWellFormedMethod false false class.this_class (method_text method body)
 method_well_formed class before method exp body flags straight fits of_method = record {
   name = has_name method body straight.candidate.name;
   descriptor = rw straight.candidate.descriptor (IsMethodDescriptor-ints straight.parameters);
@@ -77,7 +77,7 @@ method_well_formed class before method exp body flags straight fits of_method = 
 
 -- the unit of such a class is well formed where the texts of its methods are
 pub unit_well_formed : (class : ClassOf) (bodies : List (Option Body)) (unit : CompilationUnit) → (class.flags ≡ 0x20) ⊎ (class.flags ≡ 0x21) → IsSayable class.this_class → IsClassText class bodies unit → All (λ letter. letter ≢ 47) unit.name
-    → AllByRecursion (IsWellFormedMethod false class.this_class) (printed_methods class.methods bodies) → IsWellFormed unit
+    → AllByRecursion (IsWellFormedMethod false false class.this_class) (printed_methods class.methods bodies) → IsWellFormed unit
 unit_well_formed class bodies unit flags sayable text plain methods =
     let held = flags_held class.flags flags in
     let names = simple_name unit.«package» unit.name unit refl refl plain (rw text.name (qualified class.this_class sayable)) in
@@ -90,5 +90,5 @@ unit_well_formed class bodies unit flags sayable text plain methods =
       interfaces = rw text.interfaces tt;
       fields = rw text.fields tt;
       helper = rw text.helper tt;
-      methods = rw (text.methods, interface, text.name) methods;
+      methods = rw (text.methods, text.helper, interface, text.name) methods;
     }

@@ -83,7 +83,7 @@ module _ (class : ClassOf) where
         judged = verdicts-more [] methods before.verdicts method verdict before.judged prints;
         texts_are = rw (before.texts_are, of_method.text_is) (sym (printed-more [] methods before.verdicts method verdict before.judged));
         lines_are = before.lines_are ∙ sym (append-nil (method_lines class methods before.verdicts)) ∙ sym (lines-more [] methods before.verdicts method verdict before.judged);
-        well_formed = rw of_method.text_is (AllByRecursion-push (IsWellFormedMethod false class.this_class) texts (method_text method of_method.body) before.well_formed well);
+        well_formed = rw of_method.text_is (AllByRecursion-push (IsWellFormedMethod false false class.this_class) texts (method_text method of_method.body) before.well_formed well);
       }
 
   -- a verdict without a body prints nothing

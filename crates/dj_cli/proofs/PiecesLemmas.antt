@@ -4,7 +4,7 @@ use Rattle.dj_class.specs.Described.{ClassOf}
 use Rattle.dj_syntax.specs.Trees.{Body, MethodText, CompilationUnit}
 use Rattle.dj_syntax.specs.UnitText.{unit_text}
 use Rattle.dj_syntax.specs.WellFormed.{IsWellFormed}
-use Rattle.dj_read.proofs.OneText.{units_have_one_text}
+use Rattle.dj_grammar.proofs.OneText.{units_have_one_text}
 use Rattle.dj_unit.specs.ClassText.{IsClassText, file_line, printed_methods}
 use Rattle.dj_unit.specs.ClassPart.{IsClassPart}
 use Rattle.dj_cli.specs.Output.{PrintsClass, bodies_of}

@@ -61,4 +61,4 @@ pub record AreJudged (class : ClassOf) (methods : List MethodOf) (texts : List M
   pub judged : AreVerdicts class [] methods verdicts
   pub texts_are : texts ≡ printed_methods methods (bodies_of verdicts)
   pub lines_are : lines ≡ method_lines class methods verdicts
-  pub well_formed : AllByRecursion (IsWellFormedMethod false class.this_class) texts
+  pub well_formed : AllByRecursion (IsWellFormedMethod false false class.this_class) texts

@@ -5,8 +5,8 @@ ghost use Rattle.dj_class.specs.Views.{view_class};
 ghost use Rattle.dj_unit.specs.ClassPart.{IsClassPart};
 ghost use Rattle.dj_cli.specs.Output.{PrintsClass};
 ghost use Rattle.dj_cli.specs.Pieces.{piece_of, piece_of_parts};
-ghost use Rattle.dj_print.specs.Printable.{IsAscii};
 ghost use Rattle.dj_syntax.specs.Trees.{view_unit};
+ghost use Rattle.dj_syntax.specs.WellFormed.{IsWellFormed};
 
 use crate::methods::{Judgement, MethodLine, judge_methods};
 use dj_class::ClassFile;
@@ -45,7 +45,7 @@ fn piece_of_unit<'a>(
     lines: Vec<MethodLine<'a>>,
 ) -> Result<ClassPiece<'a>, AllocError>
     requires ascii { All (λ letter. letter < 128) name.now }
-    requires printable { IsAscii (view_unit unit.now) }
+    requires well_formed { IsWellFormed (view_unit unit.now) }
     ensures piece { IfOk result (λ piece. piece_of name.now piece ≡ piece_of_parts name.now (view_unit unit.now) lines.entry.items) }
 {
     let line = file_line(alloc, name)?;

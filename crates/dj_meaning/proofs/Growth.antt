@@ -35,6 +35,26 @@ rises-value context scope (Variable variable) =
     record { rises = λ state. (rises-looked_up (scope variable) (state.store.variables variable)).rises state }
 rises-value context scope (Binary operator left right) =
     rises-form context.headers (operator_of operator) _ _ (rises-value context scope left) (rises-value context scope right)
+rises-value context scope (trees.Long number) = rises-stops Stuck
+rises-value context scope (trees.Text units) = rises-stops Stuck
+rises-value context scope (trees.Truth known) = rises-stops Stuck
+rises-value context scope trees.Null = rises-stops Stuck
+rises-value context scope trees.This = rises-stops Stuck
+rises-value context scope (trees.ClassOf kind) = rises-stops Stuck
+rises-value context scope (trees.Field object name) = rises-stops Stuck
+rises-value context scope (trees.Static class name) = rises-stops Stuck
+rises-value context scope (trees.Element array index) = rises-stops Stuck
+rises-value context scope (trees.Call object name arguments) = rises-stops Stuck
+rises-value context scope (trees.StaticCall class name arguments) = rises-stops Stuck
+rises-value context scope (trees.SuperCall above name arguments) = rises-stops Stuck
+rises-value context scope (trees.New class arguments) = rises-stops Stuck
+rises-value context scope (trees.NewArray kind sizes more) = rises-stops Stuck
+rises-value context scope (trees.Cast kind operand) = rises-stops Stuck
+rises-value context scope (trees.InstanceOf operand kind) = rises-stops Stuck
+rises-value context scope (trees.Negative operand) = rises-stops Stuck
+rises-value context scope (trees.Not operand) = rises-stops Stuck
+rises-value context scope (trees.Choice test first second) = rises-stops Stuck
+rises-value context scope (trees.Assign variable assigned) = rises-stops Stuck
 
 rises-returns_nothing : (result : Option JType) → Rises (returns_nothing result)
 rises-returns_nothing None = rises-is (Return None)
@@ -56,6 +76,26 @@ mutual
   rises-run context scope bound (trees.Return None) = rises-returns_nothing context.result
   rises-run context scope bound (trees.Return (Some result)) =
       rises-bind (value context scope result) _ (rises-value context scope result) (rises-returns_value context context.result)
+  rises-run context scope bound (trees.Labelled label statement) = rises-stops Stuck
+  rises-run context scope bound (trees.Declare variable kind value) = rises-stops Stuck
+  rises-run context scope bound (trees.Set variable value) = rises-stops Stuck
+  rises-run context scope bound (trees.SetField object name value) = rises-stops Stuck
+  rises-run context scope bound (trees.SetStatic class name value) = rises-stops Stuck
+  rises-run context scope bound (trees.SetElement array index value) = rises-stops Stuck
+  rises-run context scope bound (trees.Run call) = rises-stops Stuck
+  rises-run context scope bound (trees.If test first second) = rises-stops Stuck
+  rises-run context scope bound (trees.While test body) = rises-stops Stuck
+  rises-run context scope bound (trees.Switch switched groups) = rises-stops Stuck
+  rises-run context scope bound (trees.Break label) = rises-stops Stuck
+  rises-run context scope bound (trees.Continue label) = rises-stops Stuck
+  rises-run context scope bound (trees.Throw thrown) = rises-stops Stuck
+  rises-run context scope bound (trees.Rethrow variable) = rises-stops Stuck
+  rises-run context scope bound (trees.Try body clauses) = rises-stops Stuck
+  rises-run context scope bound (trees.Synchronized monitor body) = rises-stops Stuck
+  rises-run context scope bound (trees.Construct own arguments) = rises-stops Stuck
+  rises-run context scope bound (trees.Do body test) = rises-stops Stuck
+  rises-run context scope bound (trees.For test variable step body) = rises-stops Stuck
+  rises-run context scope bound (trees.Finally body last) = rises-stops Stuck
 
   pub rises-run_all : (context : Context) (scope : Scope) (bound : ℕ) (list : Stms) → Rises (run_all context scope bound list)
   rises-run_all context scope bound Empty = rises-is Normal
@@ -82,6 +122,26 @@ mutual
   below-run context scope bound longer less (Block list) state = below-run_all context scope bound longer less list state
   below-run context scope bound longer less (trees.Return None) state = below-refl (returns_nothing context.result state)
   below-run context scope bound longer less (trees.Return (Some result)) state = below-refl (run context scope bound (trees.Return (Some result)) state)
+  below-run context scope bound longer less (trees.Labelled label statement) state = refl
+  below-run context scope bound longer less (trees.Declare variable kind value) state = refl
+  below-run context scope bound longer less (trees.Set variable value) state = refl
+  below-run context scope bound longer less (trees.SetField object name value) state = refl
+  below-run context scope bound longer less (trees.SetStatic class name value) state = refl
+  below-run context scope bound longer less (trees.SetElement array index value) state = refl
+  below-run context scope bound longer less (trees.Run call) state = refl
+  below-run context scope bound longer less (trees.If test first second) state = refl
+  below-run context scope bound longer less (trees.While test body) state = refl
+  below-run context scope bound longer less (trees.Switch switched groups) state = refl
+  below-run context scope bound longer less (trees.Break label) state = refl
+  below-run context scope bound longer less (trees.Continue label) state = refl
+  below-run context scope bound longer less (trees.Throw thrown) state = refl
+  below-run context scope bound longer less (trees.Rethrow variable) state = refl
+  below-run context scope bound longer less (trees.Try body clauses) state = refl
+  below-run context scope bound longer less (trees.Synchronized monitor body) state = refl
+  below-run context scope bound longer less (trees.Construct own arguments) state = refl
+  below-run context scope bound longer less (trees.Do body test) state = refl
+  below-run context scope bound longer less (trees.For test variable step body) state = refl
+  below-run context scope bound longer less (trees.Finally body last) state = refl
 
   pub below-run_all : (context : Context) (scope : Scope) (bound longer : ℕ) → bound ≤ longer → (list : Stms) (state : State Store) → Below (run_all context scope bound list state) (run_all context scope longer list state)
   below-run_all context scope bound longer less Empty state = refl

@@ -63,6 +63,27 @@ abbrev pub value : Context → Scope → Exp → Meaning Value
 value context scope (trees.Int number) = pure (Int number)
 value context scope (Variable variable) = λ state. looked_up (scope variable) (state.store.variables variable) state
 value context scope (Binary operator left right) = operate context.headers operator (value context scope left) (value context scope right)
+-- of the others the meaning isn't said yet
+value context scope (trees.Long number) = stuck
+value context scope (trees.Text units) = stuck
+value context scope (trees.Truth known) = stuck
+value context scope trees.Null = stuck
+value context scope trees.This = stuck
+value context scope (trees.ClassOf kind) = stuck
+value context scope (trees.Field object name) = stuck
+value context scope (trees.Static class name) = stuck
+value context scope (trees.Element array index) = stuck
+value context scope (trees.Call object name arguments) = stuck
+value context scope (trees.StaticCall class name arguments) = stuck
+value context scope (trees.SuperCall above name arguments) = stuck
+value context scope (trees.New class arguments) = stuck
+value context scope (trees.NewArray kind sizes more) = stuck
+value context scope (trees.Cast kind operand) = stuck
+value context scope (trees.InstanceOf operand kind) = stuck
+value context scope (trees.Negative operand) = stuck
+value context scope (trees.Not operand) = stuck
+value context scope (trees.Choice test first second) = stuck
+value context scope (trees.Assign variable assigned) = stuck
 
 -- ---- statements
 
@@ -94,6 +115,27 @@ abbrev mutual
   run context scope bound (Block list) = run_all context scope bound list
   run context scope bound (trees.Return None) = returns_nothing context.result
   run context scope bound (trees.Return (Some result)) = after (value context scope result) (returns_value context context.result)
+  -- of the others the meaning isn't said yet
+  run context scope bound (trees.Labelled label statement) = stuck
+  run context scope bound (trees.Declare variable kind value) = stuck
+  run context scope bound (trees.Set variable value) = stuck
+  run context scope bound (trees.SetField object name value) = stuck
+  run context scope bound (trees.SetStatic class name value) = stuck
+  run context scope bound (trees.SetElement array index value) = stuck
+  run context scope bound (trees.Run call) = stuck
+  run context scope bound (trees.If test first second) = stuck
+  run context scope bound (trees.While test body) = stuck
+  run context scope bound (trees.Switch switched groups) = stuck
+  run context scope bound (trees.Break label) = stuck
+  run context scope bound (trees.Continue label) = stuck
+  run context scope bound (trees.Throw thrown) = stuck
+  run context scope bound (trees.Rethrow variable) = stuck
+  run context scope bound (trees.Try body clauses) = stuck
+  run context scope bound (trees.Synchronized monitor body) = stuck
+  run context scope bound (trees.Construct own arguments) = stuck
+  run context scope bound (trees.Do body test) = stuck
+  run context scope bound (trees.For test variable step body) = stuck
+  run context scope bound (trees.Finally body last) = stuck
 
   -- statements in order
   pub run_all : Context → Scope → ℕ → Stms → Meaning Completion

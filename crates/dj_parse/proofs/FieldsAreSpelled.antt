@@ -3,8 +3,9 @@ use Rattle.std.proofs.Common.{◌≡◌, ℕ, Bool, false, List, [], ◌∷◌, 
 use Rattle.std.specs.Prelude.{codes}
 use Rattle.dj_syntax.specs.Trees.{Exp, FieldText}
 use Rattle.dj_syntax.specs.Items.{Item, Space, render}
-use Rattle.dj_syntax.specs.UnitText.{word, sign, type_items, modifiers_items, field_bits, value_items, field_items, helper_items, exp_items}
+use Rattle.dj_syntax.specs.UnitText.{Spellings, word, sign, type_items, modifiers_items, field_bits, value_items, field_items, helper_items, exp_items}
 use Rattle.dj_syntax.specs.WellFormed.{IsWellFormedField, IsHelperName}
+use Rattle.dj_parse.specs.Plain.{IsPlainExp, IsPlainField}
 use Rattle.dj_parse.specs.Words.{Words, words, begins, is_letter}
 use Rattle.dj_parse.proofs.Runs.{identifier_run}
 use Rattle.dj_parse.proofs.ValuesAreRead.{exp_words, exp_text}
@@ -25,24 +26,24 @@ abbrev pub field_words : Bool → FieldText → Words → Words
 field_words interface field after =
     modifiers_words (bit_and field.flags (field_bits interface (is_some field.value))) ++ (type_words field.kind ++ field.name ∷ value_words field.value after)
 
-value_ends : (own : List ℕ) (value : Option Exp) (text : List ℕ) → begins is_letter (render (value_items (full own) value) ++ text) ≡ false
-value_ends own None text = refl
-value_ends own (Some value) text = refl
+value_ends : (spellings : Spellings) (value : Option Exp) (text : List ℕ) → begins is_letter (render (value_items (full spellings) value) ++ text) ≡ false
+value_ends spellings None text = refl
+value_ends spellings (Some value) text = refl
 
-value_is_spelled : (own : List ℕ) (value : Option Exp) (text : List ℕ) → words (render (value_items (full own) value) ++ text) ≡ value_words value (words text)
-value_is_spelled own None text = refl
-value_is_spelled own (Some value) text =
+value_is_spelled : (spellings : Spellings) (value : Option Exp) (text : List ℕ) → IfSome value IsPlainExp → words (render (value_items (full spellings) value) ++ text) ≡ value_words value (words text)
+value_is_spelled spellings None text plain = refl
+value_is_spelled spellings (Some value) text plain =
     ap (λ after. codes "=" ∷ after)
-    (spelled_before is_letter (exp_items (full own) value) (sign (codes ";") ∷ []) (exp_words value) (codes ";" ∷ words text) text (exp_text (full own) value) refl refl)
+    (spelled_before is_letter (exp_items (full spellings) value) (sign (codes ";") ∷ []) (exp_words value) (codes ";" ∷ words text) text (exp_text (full spellings) value plain) refl refl)
 
--- a field is spelled as its words
-pub field_is_spelled : (own : List ℕ) (interface : Bool) (field : FieldText) (text : List ℕ) → IsWellFormedField interface field → words (render (field_items (full own) interface field) ++ text) ≡ field_words interface field (words text)
-field_is_spelled own interface field text formed =
+-- a plain field is spelled as its words
+pub field_is_spelled : (spellings : Spellings) (interface : Bool) (field : FieldText) (text : List ℕ) → IsPlainField field → IsWellFormedField interface field → words (render (field_items (full spellings) interface field) ++ text) ≡ field_words interface field (words text)
+field_is_spelled spellings interface field text plain formed =
     let bits = bit_and field.flags (field_bits interface (is_some field.value)) in
-    let value = value_items (full own) field.value in
-    let name = word_before field.name value (value_words field.value (words text)) text (identifier_run field.name formed.name) (value_ends own field.value text) (value_is_spelled own field.value text) in
-    let kind = spelled_before is_letter (type_items (full own) field.kind) (Space ∷ word field.name ∷ value) (type_words field.kind) (field.name ∷ value_words field.value (words text)) text (type_is_spelled own field.kind formed.kind) refl name in
-    freely_before (modifiers_items bits) (type_items (full own) field.kind ++ Space ∷ word field.name ∷ value) (modifiers_words bits) (type_words field.kind ++ field.name ∷ value_words field.value (words text)) text (modifiers_are_words bits) kind
+    let value = value_items (full spellings) field.value in
+    let name = word_before field.name value (value_words field.value (words text)) text (identifier_run field.name formed.name) (value_ends spellings field.value text) (value_is_spelled spellings field.value text plain) in
+    let kind = spelled_before is_letter (type_items (full spellings) field.kind) (Space ∷ word field.name ∷ value) (type_words field.kind) (field.name ∷ value_words field.value (words text)) text (type_is_spelled spellings field.kind formed.kind) refl name in
+    freely_before (modifiers_items bits) (type_items (full spellings) field.kind ++ Space ∷ word field.name ∷ value) (modifiers_words bits) (type_words field.kind ++ field.name ∷ value_words field.value (words text)) text (modifiers_are_words bits) kind
 
 -- ---- the helper
 

@@ -1,4 +1,4 @@
--- What the words of members spell is read from them, up to the brace that ends their unit.
+-- What the words of plain members spell is read from them, up to the brace that ends their unit.
 use Rattle.std.proofs.Common.{◌≡◌, ℕ, zero, suc, ◌+◌, ◌≤◌, ◌==◌, Bool, true, false, ◌&&◌, List, [], ◌∷◌, ◌++◌, length, Option, Some, None, is_some, bit_and, refl, sym, ap, ◌∙◌, subst, arith, append_assoc, append-nil}
 use Rattle.std.specs.Prelude.{codes, if◌then◌else◌}
 use Rattle.std.specs.List.{AllByRecursion}
@@ -7,6 +7,7 @@ use Rattle.dj_names.specs.Types.{result_of}
 use Rattle.dj_syntax.specs.Trees.{FieldText, MethodText, CompilationUnit}
 use Rattle.dj_syntax.specs.UnitText.{field_bits, method_bits, is_interface, is_constructor, is_initialiser}
 use Rattle.dj_syntax.specs.WellFormed.{IsWellFormed, IsWellFormedField, IsWellFormedMethod, class_name}
+use Rattle.dj_parse.specs.Plain.{IsPlain, IsPlainField, IsPlainMethod}
 use Rattle.dj_parse.specs.Words.{Words}
 use Rattle.dj_parse.specs.Members.{Place, Members, no_members, read_member, read_members, ends_members, with_field, with_helper, with_method}
 use Rattle.dj_parse.proofs.Runs.{identifier_run, run_differs}
@@ -32,7 +33,7 @@ default_last interface method list other = go (interface && (is_some method.body
     go true = refl
     go false = other
 
-method_last : (own class : List ℕ) (interface : Bool) (method : MethodText) (list : Words) → IsIdentifier own → IsWellFormedMethod interface class method → ends_members (method_words own interface method list) ≡ false
+method_last : {helper : Bool} (own class : List ℕ) (interface : Bool) (method : MethodText) (list : Words) → IsIdentifier own → IsWellFormedMethod interface helper class method → ends_members (method_words own interface method list) ≡ false
 method_last own class interface method list own_is formed = go (is_initialiser method.name) (is_constructor method.name) refl refl
   where
     go : (initialiser constructor : Bool) → is_initialiser method.name ≡ initialiser → is_constructor method.name ≡ constructor → ends_members (method_words own interface method list) ≡ false
@@ -65,14 +66,14 @@ reads_one place count members more list rest result other read others (suc most)
 abbrev with_methods : Members → List MethodText → Members
 with_methods members methods = record { fields = members.fields; helper = members.helper; methods = members.methods ++ methods }
 
-methods_are_read : (place : Place) (own : List ℕ) (members : Members) (methods : List MethodText) (rest : Words) → IsIdentifier own → AllByRecursion (IsWellFormedMethod place.interface place.class) methods
+methods_are_read : (place : Place) (helper : Bool) (own : List ℕ) (members : Members) (methods : List MethodText) (rest : Words) → IsIdentifier own → AllByRecursion IsPlainMethod methods → AllByRecursion (IsWellFormedMethod place.interface helper place.class) methods
     → Reads place (length methods) members (methods_words own place.interface methods (codes "}" ∷ rest)) (with_methods members methods)
-methods_are_read place own members [] rest own_is formed most some =
+methods_are_read place helper own members [] rest own_is plain formed most some =
     reads_end place members rest most some ∙ ap (λ methods. record { fields = members.fields; helper = members.helper; methods = methods }) (sym (append-nil members.methods))
-methods_are_read place own members (method ∷ others) rest own_is (here, there) most some =
+methods_are_read place helper own members (method ∷ others) rest own_is (plain_here, plain_there) (here, there) most some =
     let list = methods_words own place.interface others (codes "}" ∷ rest) in
     reads_one place (length others) members (with_method members method) (method_words own place.interface method list) list (with_methods (with_method members method) others)
-    (method_last own place.class place.interface method list own_is here) (method_is_read place members own method list own_is here) (methods_are_read place own (with_method members method) others rest own_is there) most (omega arith)
+    (method_last own place.class place.interface method list own_is here) (method_is_read place helper members own method list own_is plain_here here) (methods_are_read place helper own (with_method members method) others rest own_is plain_there there) most (omega arith)
     ∙ ap (λ methods. record { fields = members.fields; helper = members.helper; methods = methods }) (append_assoc members.methods (method ∷ []) others)
 
 -- this helper, where there is one
@@ -89,16 +90,16 @@ helper_goes_on place count members (Some name) rest result others most some =
 abbrev with_fields : Members → List FieldText → Members
 with_fields members fields = record { fields = members.fields ++ fields; helper = members.helper; methods = members.methods }
 
-fields_go_on : (place : Place) (count : ℕ) (members : Members) (fields : List FieldText) (rest : Words) (result : Members) → AllByRecursion (IsWellFormedField place.interface) fields → Reads place count (with_fields members fields) rest result
+fields_go_on : (place : Place) (count : ℕ) (members : Members) (fields : List FieldText) (rest : Words) (result : Members) → AllByRecursion IsPlainField fields → AllByRecursion (IsWellFormedField place.interface) fields → Reads place count (with_fields members fields) rest result
     → Reads place (length fields + count) members (fields_words place.interface fields rest) result
-fields_go_on place count members [] rest result formed others most some =
+fields_go_on place count members [] rest result plain formed others most some =
     ap (λ fields. read_members place most (record { fields = fields; helper = members.helper; methods = members.methods }) rest) (sym (append-nil members.fields)) ∙ others most (omega arith)
-fields_go_on place count members (field ∷ more) rest result (here, there) others most some =
+fields_go_on place count members (field ∷ more) rest result (plain_here, plain_there) (here, there) others most some =
     let list = fields_words place.interface more rest in
     let same = append_assoc members.fields (field ∷ []) more in
     reads_one place (length more + count) members (with_field members field) (field_words place.interface field list) list result
-    (field_last place.interface field list here) (field_is_read place members field list here)
-    (fields_go_on place count (with_field members field) more rest result there (subst (λ fields. Reads place count (record { fields = fields; helper = members.helper; methods = members.methods }) rest result) (sym same) others)) most (omega arith)
+    (field_last place.interface field list here) (field_is_read place members field list plain_here here)
+    (fields_go_on place count (with_field members field) more rest result plain_there there (subst (λ fields. Reads place count (record { fields = fields; helper = members.helper; methods = members.methods }) rest result) (sym same) others)) most (omega arith)
 
 -- the members of a unit
 abbrev pub members_of : CompilationUnit → Members
@@ -108,12 +109,12 @@ all_members : (fields : List FieldText) (helper : Option (List ℕ)) (methods : 
 all_members fields None methods = refl
 all_members fields (Some name) methods = refl
 
--- the members of a unit are read from their words, where so many are allowed
-pub members_are_read : (unit : CompilationUnit) (rest : Words) (most : ℕ) → IsWellFormed unit → length unit.fields + (length unit.methods + 1) ≤ most
+-- the members of a plain unit are read from their words, where so many are allowed
+pub members_are_read : (unit : CompilationUnit) (rest : Words) (most : ℕ) → IsPlain unit → IsWellFormed unit → length unit.fields + (length unit.methods + 1) ≤ most
     → read_members (record { interface = is_interface unit.flags; class = class_name unit }) most no_members (members_words unit (codes "}" ∷ rest)) ≡ members_of unit
-members_are_read unit rest most formed some =
+members_are_read unit rest most plain formed some =
     let place : Place = record { interface = is_interface unit.flags; class = class_name unit } in
     let fielded = with_fields no_members unit.fields in
-    fields_go_on place (length unit.methods + 1) no_members unit.fields (helper_words unit.helper (methods_words unit.name place.interface unit.methods (codes "}" ∷ rest))) (members_of unit) formed.fields
+    fields_go_on place (length unit.methods + 1) no_members unit.fields (helper_words unit.helper (methods_words unit.name place.interface unit.methods (codes "}" ∷ rest))) (members_of unit) plain.fields formed.fields
     (helper_goes_on place (length unit.methods) fielded unit.helper (methods_words unit.name place.interface unit.methods (codes "}" ∷ rest)) (members_of unit)
-    (λ most some. methods_are_read place unit.name (with_option fielded unit.helper) unit.methods rest formed.name formed.methods most some ∙ all_members unit.fields unit.helper unit.methods)) most some
+    (λ most some. methods_are_read place (is_some unit.helper) unit.name (with_option fielded unit.helper) unit.methods rest formed.name plain.methods formed.methods most some ∙ all_members unit.fields unit.helper unit.methods)) most some

@@ -1,11 +1,12 @@
--- Members of a unit, in order, are spelled as their words.
-use Rattle.std.proofs.Common.{◌≡◌, ℕ, Bool, List, [], ◌∷◌, ◌++◌, refl, ap, ◌∙◌}
+-- Members of a plain unit, in order, are spelled as their words.
+use Rattle.std.proofs.Common.{◌≡◌, ℕ, Bool, List, [], ◌∷◌, ◌++◌, is_some, refl, ap, ◌∙◌}
 use Rattle.std.specs.List.{AllByRecursion, flat_map}
 use Rattle.dj_names.specs.Identifiers.{IsIdentifier}
 use Rattle.dj_syntax.specs.Trees.{FieldText, MethodText, CompilationUnit}
 use Rattle.dj_syntax.specs.Items.{render}
-use Rattle.dj_syntax.specs.UnitText.{full_names, is_interface, members_items, field_items, helper_items, method_items}
+use Rattle.dj_syntax.specs.UnitText.{Spellings, full_names, is_interface, members_items, field_items, helper_items, method_items}
 use Rattle.dj_syntax.specs.WellFormed.{IsWellFormed, class_name, IsWellFormedField, IsWellFormedMethod}
+use Rattle.dj_parse.specs.Plain.{IsPlain, IsPlainField, IsPlainMethod}
 use Rattle.dj_parse.specs.Words.{Words, words}
 use Rattle.dj_parse.proofs.Spelled.{then_text}
 use Rattle.dj_parse.proofs.NamesAreSpelled.{full}
@@ -22,20 +23,20 @@ abbrev pub methods_words : List ℕ → Bool → List MethodText → Words → W
 methods_words own interface [] after = after
 methods_words own interface (method ∷ rest) after = method_words own interface method (methods_words own interface rest after)
 
-fields_are_spelled : (own : List ℕ) (interface : Bool) (fields : List FieldText) (text : List ℕ) → AllByRecursion (IsWellFormedField interface) fields → words (render (flat_map (field_items (full own) interface) fields) ++ text) ≡ fields_words interface fields (words text)
-fields_are_spelled own interface [] text formed = refl
-fields_are_spelled own interface (field ∷ rest) text (here, there) =
-    let more = flat_map (field_items (full own) interface) rest in
-    ap words (then_text (field_items (full own) interface field) more text)
-    ∙ field_is_spelled own interface field (render more ++ text) here ∙ ap (field_words interface field) (fields_are_spelled own interface rest text there)
+fields_are_spelled : (spellings : Spellings) (interface : Bool) (fields : List FieldText) (text : List ℕ) → AllByRecursion IsPlainField fields → AllByRecursion (IsWellFormedField interface) fields → words (render (flat_map (field_items (full spellings) interface) fields) ++ text) ≡ fields_words interface fields (words text)
+fields_are_spelled spellings interface [] text plain formed = refl
+fields_are_spelled spellings interface (field ∷ rest) text (plain_here, plain_there) (here, there) =
+    let more = flat_map (field_items (full spellings) interface) rest in
+    ap words (then_text (field_items (full spellings) interface field) more text)
+    ∙ field_is_spelled spellings interface field (render more ++ text) plain_here here ∙ ap (field_words interface field) (fields_are_spelled spellings interface rest text plain_there there)
 
-methods_are_spelled : (own class : List ℕ) (interface : Bool) (methods : List MethodText) (text : List ℕ) → IsIdentifier own → AllByRecursion (IsWellFormedMethod interface class) methods
-    → words (render (flat_map (method_items (full own) interface) methods) ++ text) ≡ methods_words own interface methods (words text)
-methods_are_spelled own class interface [] text own_is formed = refl
-methods_are_spelled own class interface (method ∷ rest) text own_is (here, there) =
-    let more = flat_map (method_items (full own) interface) rest in
-    ap words (then_text (method_items (full own) interface method) more text)
-    ∙ method_is_spelled own class interface method (render more ++ text) own_is here ∙ ap (method_words own interface method) (methods_are_spelled own class interface rest text own_is there)
+methods_are_spelled : (helper : Bool) (spellings : Spellings) (class : List ℕ) (interface : Bool) (methods : List MethodText) (text : List ℕ) → AllByRecursion IsPlainMethod methods → IsIdentifier spellings.own → AllByRecursion (IsWellFormedMethod interface helper class) methods
+    → words (render (flat_map (method_items (full spellings) interface) methods) ++ text) ≡ methods_words spellings.own interface methods (words text)
+methods_are_spelled helper spellings class interface [] text plain own_is formed = refl
+methods_are_spelled helper spellings class interface (method ∷ rest) text (plain_here, plain_there) own_is (here, there) =
+    let more = flat_map (method_items (full spellings) interface) rest in
+    ap words (then_text (method_items (full spellings) interface method) more text)
+    ∙ method_is_spelled spellings class interface method (render more ++ text) plain_here own_is here ∙ ap (method_words spellings.own interface method) (methods_are_spelled helper spellings class interface rest text plain_there own_is there)
 
 -- the words of members, in front of others
 abbrev pub members_words : CompilationUnit → Words → Words
@@ -43,14 +44,15 @@ members_words unit after =
     fields_words (is_interface unit.flags) unit.fields (helper_words unit.helper (methods_words unit.name (is_interface unit.flags) unit.methods after))
 
 -- members are spelled as their words
-pub members_are_spelled : (unit : CompilationUnit) (text : List ℕ) → IsWellFormed unit → words (render (members_items (full_names unit) unit) ++ text) ≡ members_words unit (words text)
-members_are_spelled unit text formed =
+pub members_are_spelled : (unit : CompilationUnit) (text : List ℕ) → IsPlain unit → IsWellFormed unit → words (render (members_items (full_names unit) unit) ++ text) ≡ members_words unit (words text)
+members_are_spelled unit text plain formed =
     let interface = is_interface unit.flags in
-    let fields = flat_map (field_items (full unit.name) interface) unit.fields in
+    let spellings = full_names unit in
+    let fields = flat_map (field_items spellings interface) unit.fields in
     let helper = helper_items unit.helper in
-    let methods = flat_map (method_items (full unit.name) interface) unit.methods in
+    let methods = flat_map (method_items spellings interface) unit.methods in
     ap words (then_text fields (helper ++ methods) text)
-    ∙ fields_are_spelled unit.name interface unit.fields (render (helper ++ methods) ++ text) formed.fields
+    ∙ fields_are_spelled spellings interface unit.fields (render (helper ++ methods) ++ text) plain.fields formed.fields
     ∙ ap (λ text. fields_words interface unit.fields (words text)) (then_text helper methods text)
     ∙ ap (fields_words interface unit.fields) (helper_is_spelled unit.helper (render methods ++ text) formed.helper)
-    ∙ ap (λ after. fields_words interface unit.fields (helper_words unit.helper after)) (methods_are_spelled unit.name (class_name unit) interface unit.methods text formed.name formed.methods)
+    ∙ ap (λ after. fields_words interface unit.fields (helper_words unit.helper after)) (methods_are_spelled (is_some unit.helper) spellings (class_name unit) interface unit.methods text plain.methods formed.name formed.methods)

@@ -1,4 +1,4 @@
--- What the words of methods, constructors and static initialisers spell is read from them, whatever follows.
+-- What the words of plain methods, constructors and static initialisers spell is read from them, whatever follows.
 use Rattle.std.proofs.Common.{◌≡◌, ℕ, ◌==◌, Bool, true, false, ◌&&◌, List, ◌∷◌, ◌++◌, Option, Some, None, IfSome, is_some, bit_and, refl, sym, ap, ◌∙◌}
 use Rattle.std.specs.Prelude.{codes, if◌then◌else◌}
 use Rattle.std.specs.Int.Bits.{and_self}
@@ -6,6 +6,7 @@ use Rattle.dj_names.specs.Types.{JType, Descriptor, Method}
 use Rattle.dj_syntax.specs.Trees.{Stm, Body, MethodText}
 use Rattle.dj_syntax.specs.UnitText.{method_bits, is_initialiser}
 use Rattle.dj_syntax.specs.WellFormed.{IsWellFormedMethod, IsWellFormedBody, HasHeadOf, held_method}
+use Rattle.dj_parse.specs.Plain.{ArePlainStms}
 use Rattle.dj_parse.specs.Words.{Words, begins, comes}
 use Rattle.dj_parse.specs.Names.{read_parameters, read_names}
 use Rattle.dj_parse.specs.Members.{Place, Members, head_of, body_of, method_of, read_body, read_method, read_named, read_modified, read_modifiers, with_method}
@@ -24,9 +25,9 @@ abbrev statements_of : Option Body → Option (List Stm)
 statements_of None = None
 statements_of (Some body) = Some (list_of body.statements)
 
-body_is_read : (class : List ℕ) (method : MethodText) (body : Option Body) (list : Words) → IfSome body (IsWellFormedBody class method) → read_body (body_words body list) ≡ (statements_of body, list)
-body_is_read class method None list formed = refl
-body_is_read class method (Some body) list formed = rw (body_read body.statements list formed.statements)
+body_is_read : (helper : Bool) (class : List ℕ) (method : MethodText) (body : Option Body) (list : Words) → IfSome body (λ body. ArePlainStms body.statements) → IfSome body (IsWellFormedBody helper class method) → read_body (body_words body list) ≡ (statements_of body, list)
+body_is_read helper class method None list plain formed = refl
+body_is_read helper class method (Some body) list plain formed = rw (body_read helper body.statements list plain formed.statements)
 
 -- a body ends a list of names
 body_ends : (body : Option Body) (list : Words) → (comes (codes "throws") (body_words body list) ≡ false) × EndsNames (body_words body list)
@@ -65,11 +66,11 @@ body_is_made place flags name descriptor thrown body head = λ i. record {
 }
 
 -- a method is made of its parts
-method_is_made : (place : Place) (flags : ℕ) (name : List ℕ) (descriptor : Descriptor) (thrown : List (List ℕ)) (body : Option Body) → is_initialiser name ≡ false → IsWellFormedMethod place.interface place.class (head_of flags name descriptor thrown body)
+method_is_made : (place : Place) (helper : Bool) (flags : ℕ) (name : List ℕ) (descriptor : Descriptor) (thrown : List (List ℕ)) (body : Option Body) → is_initialiser name ≡ false → IsWellFormedMethod place.interface helper place.class (head_of flags name descriptor thrown body)
     → method_of place (bit_and flags (method_bits place.interface)) name descriptor thrown (statements_of body) ≡ head_of flags name descriptor thrown body
-method_is_made place flags name descriptor thrown None method formed =
+method_is_made place helper flags name descriptor thrown None method formed =
     ap (λ flags. head_of flags name descriptor thrown None) (held_shown place.interface name descriptor thrown flags None None method refl ∙ sym formed.flags)
-method_is_made place flags name descriptor thrown (Some body) method formed =
+method_is_made place helper flags name descriptor thrown (Some body) method formed =
     let statements = list_of body.statements in
     let shown = body_of place (head_of (bit_and flags (method_bits place.interface)) name descriptor thrown None) statements in
     ap (λ flags. head_of flags name descriptor thrown (Some (body_of place (head_of flags name descriptor thrown None) statements))) (held_shown place.interface name descriptor thrown flags (Some body) (Some shown) method refl ∙ sym formed.flags)
@@ -83,16 +84,17 @@ method_goes_on : (place : Place) (bits : ℕ) (name : List ℕ) (result : Option
 method_goes_on place bits name result kinds thrown statements parenthesis list behind_kinds behind_thrown behind of_kinds of_thrown of_body = rw (of_kinds, of_thrown, of_body)
 
 -- a method or a constructor is read from its parenthesis on
-pub taken_is_read : (place : Place) (flags : ℕ) (name : List ℕ) (kinds : List JType) (result : Option JType) (thrown : List (List ℕ)) (body : Option Body) (list : Words) → is_initialiser name ≡ false
-    → IsWellFormedMethod place.interface place.class (head_of flags name (Method kinds result) thrown body)
+pub taken_is_read : (place : Place) (helper : Bool) (flags : ℕ) (name : List ℕ) (kinds : List JType) (result : Option JType) (thrown : List (List ℕ)) (body : Option Body) (list : Words) → is_initialiser name ≡ false
+    → IfSome body (λ body. ArePlainStms body.statements)
+    → IsWellFormedMethod place.interface helper place.class (head_of flags name (Method kinds result) thrown body)
     → read_method place (bit_and flags (method_bits place.interface)) name result (taking_words (head_of flags name (Method kinds result) thrown body) (body_words body list)) ≡ (head_of flags name (Method kinds result) thrown body, list)
-taken_is_read place flags name kinds result thrown body list method formed =
+taken_is_read place helper flags name kinds result thrown body list method plain formed =
     let ends = body_ends body list in
     method_goes_on place (bit_and flags (method_bits place.interface)) name result kinds thrown (statements_of body) (codes "(") (parameters_words kinds ++ codes ")" ∷ (names_words (codes "throws") thrown ++ body_words body list)) (names_words (codes "throws") thrown ++ body_words body list) (body_words body list) list
     (parameters_are_read kinds (names_words (codes "throws") thrown ++ body_words body list) formed.descriptor.0)
     (names_are_read (codes "throws") thrown (body_words body list) refl ends.0 ends.1)
-    (body_is_read place.class (head_of flags name (Method kinds result) thrown body) body list formed.body)
-    ∙ ap (λ method. (method, list)) (method_is_made place flags name (Method kinds result) thrown body method formed)
+    (body_is_read helper place.class (head_of flags name (Method kinds result) thrown body) body list plain formed.body)
+    ∙ ap (λ method. (method, list)) (method_is_made place helper flags name (Method kinds result) thrown body method formed)
 
 -- ---- behind the modifiers
 

@@ -15,9 +15,9 @@ use Rattle.dj_parse.proofs.TypesAreRead.{type_words, result_words, after_paramet
 use Rattle.dj_parse.proofs.Runs.{identifier_run}
 use Rattle.dj_parse.proofs.Spelled.{Spells, spelled_before, word_before, numbered_run}
 
--- the spellings of a unit with this simple name
-abbrev pub full : List ℕ → Spellings
-full own = record { class_name = dotted; own = own }
+-- spellings, with each class's name in full
+abbrev pub full : Spellings → Spellings
+full spellings = record spellings { class_name = dotted }
 
 -- ---- names
 
@@ -47,47 +47,47 @@ name_is_spelled name named = segments_are (segments name) named
 -- ---- types
 
 -- a type is spelled as its words
-pub type_is_spelled : (own : List ℕ) (kind : JType) → IsNamed kind → Spells is_letter (type_items (full own) kind) (type_words kind)
-type_is_spelled own Boolean named text ends = rw ends
-type_is_spelled own Byte named text ends = rw ends
-type_is_spelled own Char named text ends = rw ends
-type_is_spelled own Short named text ends = rw ends
-type_is_spelled own Int named text ends = rw ends
-type_is_spelled own Long named text ends = rw ends
-type_is_spelled own Float named text ends = rw ends
-type_is_spelled own Double named text ends = rw ends
-type_is_spelled own (Class name) named text ends = name_is_spelled name named text ends
-type_is_spelled own (Array element) named text ends =
-    spelled_before is_letter (type_items (full own) element) (sign (codes "[") ∷ sign (codes "]") ∷ []) (type_words element) (codes "[" ∷ codes "]" ∷ words text) text (type_is_spelled own element named) refl refl
+pub type_is_spelled : (spellings : Spellings) (kind : JType) → IsNamed kind → Spells is_letter (type_items (full spellings) kind) (type_words kind)
+type_is_spelled spellings Boolean named text ends = rw ends
+type_is_spelled spellings Byte named text ends = rw ends
+type_is_spelled spellings Char named text ends = rw ends
+type_is_spelled spellings Short named text ends = rw ends
+type_is_spelled spellings Int named text ends = rw ends
+type_is_spelled spellings Long named text ends = rw ends
+type_is_spelled spellings Float named text ends = rw ends
+type_is_spelled spellings Double named text ends = rw ends
+type_is_spelled spellings (Class name) named text ends = name_is_spelled name named text ends
+type_is_spelled spellings (Array element) named text ends =
+    spelled_before is_letter (type_items (full spellings) element) (sign (codes "[") ∷ sign (codes "]") ∷ []) (type_words element) (codes "[" ∷ codes "]" ∷ words text) text (type_is_spelled spellings element named) refl refl
     ∙ sym (append_assoc (type_words element) (codes "[" ∷ codes "]" ∷ []) (words text))
 
 -- a result is spelled as its words
-pub result_is_spelled : (own : List ℕ) (result : Option JType) → IfSome result IsNamed → Spells is_letter (result_items (full own) result) (result_words result)
-result_is_spelled own None named text ends = rw ends
-result_is_spelled own (Some kind) named text ends = type_is_spelled own kind named text ends
+pub result_is_spelled : (spellings : Spellings) (result : Option JType) → IfSome result IsNamed → Spells is_letter (result_items (full spellings) result) (result_words result)
+result_is_spelled spellings None named text ends = rw ends
+result_is_spelled spellings (Some kind) named text ends = type_is_spelled spellings kind named text ends
 
 -- ---- parameters
 
-parameters_end : (own : List ℕ) (number : ℕ) (kinds : List JType) (text : List ℕ) → begins is_letter text ≡ false → begins is_letter (render (more_parameters (full own) number kinds) ++ text) ≡ false
-parameters_end own number [] text ends = ends
-parameters_end own number (kind ∷ rest) text ends = refl
+parameters_end : (spellings : Spellings) (number : ℕ) (kinds : List JType) (text : List ℕ) → begins is_letter text ≡ false → begins is_letter (render (more_parameters (full spellings) number kinds) ++ text) ≡ false
+parameters_end spellings number [] text ends = ends
+parameters_end spellings number (kind ∷ rest) text ends = refl
 
-more_parameters_are : (own : List ℕ) (number : ℕ) (kinds : List JType) → AllByRecursion IsNamed kinds → Spells is_letter (more_parameters (full own) number kinds) (after_parameter number kinds)
-more_parameters_are own number [] named text ends = refl
-more_parameters_are own number (kind ∷ rest) (here, there) text ends =
+more_parameters_are : (spellings : Spellings) (number : ℕ) (kinds : List JType) → AllByRecursion IsNamed kinds → Spells is_letter (more_parameters (full spellings) number kinds) (after_parameter number kinds)
+more_parameters_are spellings number [] named text ends = refl
+more_parameters_are spellings number (kind ∷ rest) (here, there) text ends =
     ap (λ after. codes "," ∷ after)
-    (spelled_before is_letter (type_items (full own) kind) (Space ∷ word (112 ∷ decimal number) ∷ more_parameters (full own) (number + 1) rest) (type_words kind) ((112 ∷ decimal number) ∷ (after_parameter (number + 1) rest ++ words text)) text
-    (type_is_spelled own kind here) refl
-    (word_before (112 ∷ decimal number) (more_parameters (full own) (number + 1) rest) (after_parameter (number + 1) rest ++ words text) text (numbered_run 112 number refl) (parameters_end own (number + 1) rest text ends) (more_parameters_are own (number + 1) rest there text ends))
+    (spelled_before is_letter (type_items (full spellings) kind) (Space ∷ word (112 ∷ decimal number) ∷ more_parameters (full spellings) (number + 1) rest) (type_words kind) ((112 ∷ decimal number) ∷ (after_parameter (number + 1) rest ++ words text)) text
+    (type_is_spelled spellings kind here) refl
+    (word_before (112 ∷ decimal number) (more_parameters (full spellings) (number + 1) rest) (after_parameter (number + 1) rest ++ words text) text (numbered_run 112 number refl) (parameters_end spellings (number + 1) rest text ends) (more_parameters_are spellings (number + 1) rest there text ends))
     ∙ sym (append_assoc (type_words kind) ((112 ∷ decimal number) ∷ after_parameter (number + 1) rest) (words text)))
 
 -- parameters are spelled as their words
-pub parameters_are_spelled : (own : List ℕ) (kinds : List JType) → AllByRecursion IsNamed kinds → Spells is_letter (parameters_items (full own) kinds) (parameters_words kinds)
-parameters_are_spelled own [] named text ends = refl
-parameters_are_spelled own (kind ∷ rest) (here, there) text ends =
-    spelled_before is_letter (type_items (full own) kind) (Space ∷ word (112 ∷ decimal 0) ∷ more_parameters (full own) 1 rest) (type_words kind) ((112 ∷ decimal 0) ∷ (after_parameter 1 rest ++ words text)) text
-    (type_is_spelled own kind here) refl
-    (word_before (112 ∷ decimal 0) (more_parameters (full own) 1 rest) (after_parameter 1 rest ++ words text) text (numbered_run 112 0 refl) (parameters_end own 1 rest text ends) (more_parameters_are own 1 rest there text ends))
+pub parameters_are_spelled : (spellings : Spellings) (kinds : List JType) → AllByRecursion IsNamed kinds → Spells is_letter (parameters_items (full spellings) kinds) (parameters_words kinds)
+parameters_are_spelled spellings [] named text ends = refl
+parameters_are_spelled spellings (kind ∷ rest) (here, there) text ends =
+    spelled_before is_letter (type_items (full spellings) kind) (Space ∷ word (112 ∷ decimal 0) ∷ more_parameters (full spellings) 1 rest) (type_words kind) ((112 ∷ decimal 0) ∷ (after_parameter 1 rest ++ words text)) text
+    (type_is_spelled spellings kind here) refl
+    (word_before (112 ∷ decimal 0) (more_parameters (full spellings) 1 rest) (after_parameter 1 rest ++ words text) text (numbered_run 112 0 refl) (parameters_end spellings 1 rest text ends) (more_parameters_are spellings 1 rest there text ends))
     ∙ sym (append_assoc (type_words kind) ((112 ∷ decimal 0) ∷ after_parameter 1 rest) (words text))
 
 -- ---- lists of classes
@@ -112,9 +112,9 @@ abbrev pub IsKeyword : List ℕ → Type 0
 IsKeyword keyword = (text : List ℕ) → words (keyword ++ 32 ∷ text) ≡ keyword ∷ words text
 
 -- a list of classes is spelled as its words
-pub classes_are_spelled : (own keyword : List ℕ) (names : List (List ℕ)) → IsKeyword keyword → AllByRecursion IsQualified names → Spells is_letter (classes_items (full own) keyword names) (names_words keyword names)
-classes_are_spelled own keyword [] is named text ends = refl
-classes_are_spelled own keyword (first ∷ rest) is (here, there) text ends =
+pub classes_are_spelled : (spellings : Spellings) (keyword : List ℕ) (names : List (List ℕ)) → IsKeyword keyword → AllByRecursion IsQualified names → Spells is_letter (classes_items (full spellings) keyword names) (names_words keyword names)
+classes_are_spelled spellings keyword [] is named text ends = refl
+classes_are_spelled spellings keyword (first ∷ rest) is (here, there) text ends =
     ap words (append_assoc keyword (32 ∷ render (dotted first ++ more_classes rest)) text) ∙ is (render (dotted first ++ more_classes rest) ++ text)
     ∙ ap (λ after. keyword ∷ after)
     (spelled_before is_letter (dotted first) (more_classes rest) (name_words first) (after_commas rest ++ words text) text (name_is_spelled first here) (classes_end rest text ends) (more_classes_are rest there text ends)

@@ -1,4 +1,4 @@
--- A well formed unit is read from its words, and so from its text.
+-- A well formed plain unit is read from its words, and so from its text.
 use Rattle.std.proofs.Common.{◌≡◌, ℕ, ◌+◌, ◌≤◌, Bool, true, false, List, [], ◌∷◌, ◌++◌, length, Option, Some, None, IfSome, bit_and, bit_or, refl, sym, ap, ◌∙◌}
 use Rattle.std.specs.Prelude.{codes, if◌then◌else◌}
 use Rattle.std.specs.Int.Bits.{and_zero_r}
@@ -6,6 +6,7 @@ use Rattle.std.proofs.lemmas.Bool.{true≢false}
 use Rattle.dj_syntax.specs.Trees.{FieldText, MethodText, CompilationUnit}
 use Rattle.dj_syntax.specs.UnitText.{class_bits, is_interface, unit_text}
 use Rattle.dj_syntax.specs.WellFormed.{IsWellFormed, IsSuperclass, held_class, class_name}
+use Rattle.dj_parse.specs.Plain.{IsPlain}
 use Rattle.dj_parse.specs.Parsing.{IsParsed}
 use Rattle.dj_parse.specs.Words.{Words, words, comes}
 use Rattle.dj_parse.specs.Names.{read_names}
@@ -116,9 +117,9 @@ goes_on : (most : ℕ) (list : Words) (in_package : Option (List ℕ)) (head : W
 goes_on most list in_package head bits interface kind name supertypes superclass behind interfaces brace inside members of_package of_modifiers of_kind of_superclass of_interfaces of_members =
     rw (of_package, of_modifiers, of_kind, of_superclass, of_interfaces, of_members)
 
--- a well formed unit is read from its words, where so many members are allowed
-unit_is_read : (unit : CompilationUnit) (most : ℕ) → IsWellFormed unit → length unit.fields + (length unit.methods + 1) ≤ most → read_unit most (unit_words unit) ≡ unit
-unit_is_read unit most formed some =
+-- a well formed plain unit is read from its words, where so many members are allowed
+unit_is_read : (unit : CompilationUnit) (most : ℕ) → IsPlain unit → IsWellFormed unit → length unit.fields + (length unit.methods + 1) ≤ most → read_unit most (unit_words unit) ≡ unit
+unit_is_read unit most plain formed some =
     let interface = is_interface unit.flags in
     let inside = members_words unit (codes "}" ∷ []) in
     let kind = kind_word interface ∷ unit.name ∷ supertypes_words unit inside in
@@ -129,15 +130,15 @@ unit_is_read unit most formed some =
     (kind_is_read interface (unit.name ∷ supertypes_words unit inside))
     (superclass_is_read interface unit.superclass unit.interfaces inside formed.superclass)
     (names_are_read (interfaces_word interface) unit.interfaces (codes "{" ∷ inside) (interfaces_come interface []) (brace_no_interfaces interface inside) (refl, refl))
-    (ap (λ class. read_members (record { interface = interface; class = class }) most no_members inside) (in_package_is unit) ∙ members_are_read unit [] most formed some)
+    (ap (λ class. read_members (record { interface = interface; class = class }) most no_members inside) (in_package_is unit) ∙ members_are_read unit [] most plain formed some)
     ∙ ap (λ flags. record unit { flags = flags }) (flags_are_read unit.flags ∙ sym formed.flags)
 
--- a well formed unit is read from its text
-pub text_is_read : (unit : CompilationUnit) → IsWellFormed unit → read_unit (length (unit_text unit)) (words (unit_text unit)) ≡ unit
-text_is_read unit formed =
-    ap (read_unit (length (unit_text unit))) (unit_is_spelled unit formed) ∙ unit_is_read unit (length (unit_text unit)) formed (members_fit unit)
+-- a well formed plain unit is read from its text
+pub text_is_read : (unit : CompilationUnit) → IsPlain unit → IsWellFormed unit → read_unit (length (unit_text unit)) (words (unit_text unit)) ≡ unit
+text_is_read unit plain formed =
+    ap (read_unit (length (unit_text unit))) (unit_is_spelled unit plain formed) ∙ unit_is_read unit (length (unit_text unit)) plain formed (members_fit unit)
 
--- what is read from a text is the well formed unit whose text it is
+-- what is read from a text is the well formed plain unit whose text it is
 pub text_is_parsed : (text : List ℕ) (parsed : CompilationUnit) → parsed ≡ read_unit (length text) (words text) → IsParsed text parsed
-text_is_parsed text parsed read unit formed spelled =
-    read ∙ ap (λ text. read_unit (length text) (words text)) (sym spelled) ∙ text_is_read unit formed
+text_is_parsed text parsed read unit plain formed spelled =
+    read ∙ ap (λ text. read_unit (length text) (words text)) (sym spelled) ∙ text_is_read unit plain formed

@@ -1,4 +1,4 @@
--- An expression is read from its text, whatever follows (JLS 3.10.1, 15).
+-- A plain expression is read from its text, whatever follows (JLS 3.10.1, 15).
 use Rattle.std.proofs.Common.{◌≡◌, ℕ, suc, ◌+◌, ◌-◌, ◌*◌, ◌/◌, ◌%◌, ◌<◌, ◌≤◌, Bool, true, false, List, [], ◌∷◌, ◌++◌, refl, sym, ap, ◌∙◌, arith, append_assoc, append-nil}
 use Rattle.std.specs.Prelude.{pos, negsuc, Some, codes, if◌then◌else◌}
 use Rattle.std.specs.List.{AllByRecursion}
@@ -14,8 +14,9 @@ use Rattle.dj_syntax.specs.declared.variable.Var.{Var}
 use Rattle.dj_syntax.specs.Items.{Item, Space, item_text, render}
 use Rattle.dj_syntax.specs.Trees.{Exp, Variable, Binary}
 use Rattle.dj_syntax.specs.Trees as trees
-use Rattle.dj_syntax.specs.UnitText.{Spellings, letter, variable_name, operator_text, is_atom, operand, exp_items, sign, word}
+use Rattle.dj_syntax.specs.UnitText.{Spellings, letter, variable_name, operator_text, shape, is_atom, operand, exp_items, sign, word}
 use Rattle.dj_syntax.specs.WellFormed.{IsWellFormedExp}
+use Rattle.dj_parse.specs.Plain.{IsPlainExp}
 use Rattle.dj_parse.specs.Words.{Words, is_digit, is_letter, is_operator, begins, words, is_word}
 use Rattle.dj_parse.specs.Values.{number_behind, number_of, positive, negative, kind_of, atom_of, operator_of, Pending, Parenthesis, Left, Reading, Wanted, Minus, Stands, give, close, read_word, standing, read_value}
 use Rattle.dj_parse.proofs.WordsLemmas.{IsRun, words-name, words-operator}
@@ -126,13 +127,33 @@ abbrev pub operand_words : Bool → Words → Words
 operand_words true inside = inside
 operand_words false inside = codes "(" ∷ (inside ++ codes ")" ∷ [])
 
--- the words of an expression
+-- the words of a plain expression
 abbrev pub exp_words : Exp → Words
 exp_words (trees.Int (pos n)) = decimal n ∷ []
 exp_words (trees.Int (negsuc n)) = codes "-" ∷ decimal (suc n) ∷ []
+exp_words (trees.Long value) = []
+exp_words (trees.Text units) = []
+exp_words (trees.Truth value) = []
+exp_words trees.Null = []
+exp_words trees.This = []
+exp_words (trees.ClassOf kind) = []
+exp_words (trees.Field object name) = []
+exp_words (trees.Static class name) = []
+exp_words (trees.Element array index) = []
+exp_words (trees.Call object name arguments) = []
+exp_words (trees.StaticCall class name arguments) = []
+exp_words (trees.SuperCall above name arguments) = []
+exp_words (trees.New class arguments) = []
+exp_words (trees.NewArray kind sizes more) = []
+exp_words (trees.Cast kind value) = []
+exp_words (trees.InstanceOf value kind) = []
+exp_words (trees.Negative value) = []
+exp_words (trees.Not value) = []
+exp_words (trees.Choice test first second) = []
+exp_words (trees.Assign variable value) = []
 exp_words (Variable variable) = variable_name variable ∷ []
 exp_words (Binary operator left right) =
-    operand_words (is_atom left) (exp_words left) ++ operator_text operator ∷ operand_words (is_atom right) (exp_words right)
+    operand_words (is_atom (shape left)) (exp_words left) ++ operator_text operator ∷ operand_words (is_atom (shape right)) (exp_words right)
 
 -- ---- the text of an expression falls into its words
 
@@ -158,25 +179,45 @@ binary_text left right operator rest =
     ∙ append_assoc (render left) (32 ∷ (operator ++ (32 ∷ render right))) rest
     ∙ ap (λ text. render left ++ (32 ∷ text)) (append_assoc operator (32 ∷ render right) rest)
 
--- the text of an expression falls into its words, where no letter follows
-pub exp_text : (names : Spellings) (e : Exp) (rest : List ℕ) → begins is_letter rest ≡ false → words (render (exp_items names e) ++ rest) ≡ exp_words e ++ words rest
-exp_text names (trees.Int (pos n)) rest ends = last_word (decimal n) rest (decimal_run n) ends
-exp_text names (trees.Int (negsuc n)) rest ends =
+-- the text of a plain expression falls into its words, where no letter follows
+pub exp_text : (names : Spellings) (e : Exp) → IsPlainExp e → (rest : List ℕ) → begins is_letter rest ≡ false → words (render (exp_items names e) ++ rest) ≡ exp_words e ++ words rest
+exp_text names (trees.Int (pos n)) plain rest ends = last_word (decimal n) rest (decimal_run n) ends
+exp_text names (trees.Int (negsuc n)) plain rest ends =
     let digits = decimal (suc n) in
     let apart : begins is_operator ((digits ++ []) ++ rest) ≡ false = rw (append-nil digits) (run_no_operator digits rest (decimal_run (suc n))) in
     words-operator (codes "-") ((digits ++ []) ++ rest) (refl, tt) apart ∙ ap (λ list. codes "-" ∷ list) (last_word digits rest (decimal_run (suc n)) ends)
-exp_text names (Variable variable) rest ends = last_word (variable_name variable) rest (variable_run variable) ends
-exp_text names (Binary operator left right) rest ends =
-    let l = operand (is_atom left) (exp_items names left) in
-    let r = operand (is_atom right) (exp_items names right) in
+exp_text names (trees.Long value) plain rest ends = absurd plain
+exp_text names (trees.Text units) plain rest ends = absurd plain
+exp_text names (trees.Truth value) plain rest ends = absurd plain
+exp_text names trees.Null plain rest ends = absurd plain
+exp_text names trees.This plain rest ends = absurd plain
+exp_text names (trees.ClassOf kind) plain rest ends = absurd plain
+exp_text names (trees.Field object name) plain rest ends = absurd plain
+exp_text names (trees.Static class name) plain rest ends = absurd plain
+exp_text names (trees.Element array index) plain rest ends = absurd plain
+exp_text names (trees.Call object name arguments) plain rest ends = absurd plain
+exp_text names (trees.StaticCall class name arguments) plain rest ends = absurd plain
+exp_text names (trees.SuperCall above name arguments) plain rest ends = absurd plain
+exp_text names (trees.New class arguments) plain rest ends = absurd plain
+exp_text names (trees.NewArray kind sizes more) plain rest ends = absurd plain
+exp_text names (trees.Cast kind value) plain rest ends = absurd plain
+exp_text names (trees.InstanceOf value kind) plain rest ends = absurd plain
+exp_text names (trees.Negative value) plain rest ends = absurd plain
+exp_text names (trees.Not value) plain rest ends = absurd plain
+exp_text names (trees.Choice test first second) plain rest ends = absurd plain
+exp_text names (trees.Assign variable value) plain rest ends = absurd plain
+exp_text names (Variable variable) plain rest ends = last_word (variable_name variable) rest (variable_run variable) ends
+exp_text names (Binary operator left right) (plain_left, plain_right) rest ends =
+    let l = operand (is_atom (shape left)) (exp_items names left) in
+    let r = operand (is_atom (shape right)) (exp_items names right) in
     let spelled = operator_text operator in
-    let tail = operand_words (is_atom right) (exp_words right) in
-    let front = operand_text (is_atom left) (exp_items names left) (exp_words left) (32 ∷ (spelled ++ (32 ∷ (render r ++ rest)))) refl (exp_text names left) in
-    let back = operand_text (is_atom right) (exp_items names right) (exp_words right) rest ends (exp_text names right) in
+    let tail = operand_words (is_atom (shape right)) (exp_words right) in
+    let front = operand_text (is_atom (shape left)) (exp_items names left) (exp_words left) (32 ∷ (spelled ++ (32 ∷ (render r ++ rest)))) refl (exp_text names left plain_left) in
+    let back = operand_text (is_atom (shape right)) (exp_items names right) (exp_words right) rest ends (exp_text names right plain_right) in
     let middle = words-operator spelled (32 ∷ (render r ++ rest)) (operator_run operator) refl in
     ap words (binary_text l r spelled rest) ∙ front
-    ∙ ap (λ list. operand_words (is_atom left) (exp_words left) ++ list) (middle ∙ ap (λ list. spelled ∷ list) back)
-    ∙ sym (append_assoc (operand_words (is_atom left) (exp_words left)) (spelled ∷ tail) (words rest))
+    ∙ ap (λ list. operand_words (is_atom (shape left)) (exp_words left) ++ list) (middle ∙ ap (λ list. spelled ∷ list) back)
+    ∙ sym (append_assoc (operand_words (is_atom (shape left)) (exp_words left)) (spelled ∷ tail) (words rest))
 
 -- ---- an expression is read from its words
 
@@ -239,23 +280,63 @@ in_parentheses_given e read pending =
     ∙ ap (λ reading. read_words reading (codes ")" ∷ [])) (read (Parenthesis ∷ pending) tt)
 
 -- an operand is given where its expression is read
-operand_given : (e : Exp) → IsWellFormedExp e → IsRead e (exp_words e) → IsGiven e (operand_words (is_atom e) (exp_words e))
-operand_given (trees.Int (pos n)) well read = literal_given n (omega arith)
-operand_given (trees.Int (negsuc n)) well read = in_parentheses_given (trees.Int (negsuc n)) read
-operand_given (Variable variable) well read = variable_given variable (omega arith)
-operand_given (Binary operator left right) well read = in_parentheses_given (Binary operator left right) read
+operand_given : (e : Exp) → IsPlainExp e → IsWellFormedExp e → IsRead e (exp_words e) → IsGiven e (operand_words (is_atom (shape e)) (exp_words e))
+operand_given (trees.Int (pos n)) plain well read = literal_given n (omega arith)
+operand_given (trees.Int (negsuc n)) plain well read = in_parentheses_given (trees.Int (negsuc n)) read
+operand_given (trees.Long value) plain well read = absurd plain
+operand_given (trees.Text units) plain well read = absurd plain
+operand_given (trees.Truth value) plain well read = absurd plain
+operand_given trees.Null plain well read = absurd plain
+operand_given trees.This plain well read = absurd plain
+operand_given (trees.ClassOf kind) plain well read = absurd plain
+operand_given (trees.Field object name) plain well read = absurd plain
+operand_given (trees.Static class name) plain well read = absurd plain
+operand_given (trees.Element array index) plain well read = absurd plain
+operand_given (trees.Call object name arguments) plain well read = absurd plain
+operand_given (trees.StaticCall class name arguments) plain well read = absurd plain
+operand_given (trees.SuperCall above name arguments) plain well read = absurd plain
+operand_given (trees.New class arguments) plain well read = absurd plain
+operand_given (trees.NewArray kind sizes more) plain well read = absurd plain
+operand_given (trees.Cast kind value) plain well read = absurd plain
+operand_given (trees.InstanceOf value kind) plain well read = absurd plain
+operand_given (trees.Negative value) plain well read = absurd plain
+operand_given (trees.Not value) plain well read = absurd plain
+operand_given (trees.Choice test first second) plain well read = absurd plain
+operand_given (trees.Assign variable value) plain well read = absurd plain
+operand_given (Variable variable) plain well read = variable_given variable (omega arith)
+operand_given (Binary operator left right) plain well read = in_parentheses_given (Binary operator left right) read
 
--- an expression is read from its words
-pub exp_read : (e : Exp) → IsWellFormedExp e → (pending : List Pending) → IsFree pending → read_words (Wanted pending) (exp_words e) ≡ Stands e pending
-exp_read (trees.Int (pos n)) well pending free = literal_given n (omega arith) pending ∙ give_free _ pending free
-exp_read (trees.Int (negsuc n)) well pending free = negative_given n (omega arith) pending ∙ give_free _ pending free
-exp_read (Variable variable) well pending free = variable_given variable (omega arith) pending ∙ give_free _ pending free
-exp_read (Binary operator left right) (well_left, well_right) pending free =
-    let tail = operand_words (is_atom right) (exp_words right) in
-    read_words-append (Wanted pending) (operand_words (is_atom left) (exp_words left)) (operator_text operator ∷ tail)
-    ∙ ap (λ reading. read_words reading (operator_text operator ∷ tail)) (operand_given left well_left (exp_read left well_left) pending ∙ give_free left pending free)
+-- a plain expression is read from its words
+pub exp_read : (e : Exp) → IsPlainExp e → IsWellFormedExp e → (pending : List Pending) → IsFree pending → read_words (Wanted pending) (exp_words e) ≡ Stands e pending
+exp_read (trees.Int (pos n)) plain well pending free = literal_given n (omega arith) pending ∙ give_free _ pending free
+exp_read (trees.Int (negsuc n)) plain well pending free = negative_given n (omega arith) pending ∙ give_free _ pending free
+exp_read (trees.Long value) plain well pending free = absurd plain
+exp_read (trees.Text units) plain well pending free = absurd plain
+exp_read (trees.Truth value) plain well pending free = absurd plain
+exp_read trees.Null plain well pending free = absurd plain
+exp_read trees.This plain well pending free = absurd plain
+exp_read (trees.ClassOf kind) plain well pending free = absurd plain
+exp_read (trees.Field object name) plain well pending free = absurd plain
+exp_read (trees.Static class name) plain well pending free = absurd plain
+exp_read (trees.Element array index) plain well pending free = absurd plain
+exp_read (trees.Call object name arguments) plain well pending free = absurd plain
+exp_read (trees.StaticCall class name arguments) plain well pending free = absurd plain
+exp_read (trees.SuperCall above name arguments) plain well pending free = absurd plain
+exp_read (trees.New class arguments) plain well pending free = absurd plain
+exp_read (trees.NewArray kind sizes more) plain well pending free = absurd plain
+exp_read (trees.Cast kind value) plain well pending free = absurd plain
+exp_read (trees.InstanceOf value kind) plain well pending free = absurd plain
+exp_read (trees.Negative value) plain well pending free = absurd plain
+exp_read (trees.Not value) plain well pending free = absurd plain
+exp_read (trees.Choice test first second) plain well pending free = absurd plain
+exp_read (trees.Assign variable value) plain well pending free = absurd plain
+exp_read (Variable variable) plain well pending free = variable_given variable (omega arith) pending ∙ give_free _ pending free
+exp_read (Binary operator left right) (plain_left, plain_right) (well_left, well_right) pending free =
+    let tail = operand_words (is_atom (shape right)) (exp_words right) in
+    read_words-append (Wanted pending) (operand_words (is_atom (shape left)) (exp_words left)) (operator_text operator ∷ tail)
+    ∙ ap (λ reading. read_words reading (operator_text operator ∷ tail)) (operand_given left plain_left well_left (exp_read left plain_left well_left) pending ∙ give_free left pending free)
     ∙ ap (λ reading. read_words reading tail) (read_operator left pending operator)
-    ∙ operand_given right well_right (exp_read right well_right) (Left left operator ∷ pending)
+    ∙ operand_given right plain_right well_right (exp_read right plain_right well_right) (Left left operator ∷ pending)
 
 -- ---- no word of an expression ends it
 
@@ -275,10 +356,30 @@ operand_no_end false inside none = (refl, no_end_append inside (codes ")" ∷ []
 pub exp_no_end : (e : Exp) → HaveNoEnd (exp_words e)
 exp_no_end (trees.Int (pos n)) = (run_differs (decimal n) (codes ";") (decimal_run n) refl, tt)
 exp_no_end (trees.Int (negsuc n)) = (refl, (run_differs (decimal (suc n)) (codes ";") (decimal_run (suc n)) refl, tt))
+exp_no_end (trees.Long value) = tt
+exp_no_end (trees.Text units) = tt
+exp_no_end (trees.Truth value) = tt
+exp_no_end trees.Null = tt
+exp_no_end trees.This = tt
+exp_no_end (trees.ClassOf kind) = tt
+exp_no_end (trees.Field object name) = tt
+exp_no_end (trees.Static class name) = tt
+exp_no_end (trees.Element array index) = tt
+exp_no_end (trees.Call object name arguments) = tt
+exp_no_end (trees.StaticCall class name arguments) = tt
+exp_no_end (trees.SuperCall above name arguments) = tt
+exp_no_end (trees.New class arguments) = tt
+exp_no_end (trees.NewArray kind sizes more) = tt
+exp_no_end (trees.Cast kind value) = tt
+exp_no_end (trees.InstanceOf value kind) = tt
+exp_no_end (trees.Negative value) = tt
+exp_no_end (trees.Not value) = tt
+exp_no_end (trees.Choice test first second) = tt
+exp_no_end (trees.Assign variable value) = tt
 exp_no_end (Variable variable) = (run_differs (variable_name variable) (codes ";") (variable_run variable) refl, tt)
 exp_no_end (Binary operator left right) =
-    no_end_append (operand_words (is_atom left) (exp_words left)) _ (operand_no_end (is_atom left) (exp_words left) (exp_no_end left))
-    (operator_differs operator (codes ";") refl, operand_no_end (is_atom right) (exp_words right) (exp_no_end right))
+    no_end_append (operand_words (is_atom (shape left)) (exp_words left)) _ (operand_no_end (is_atom (shape left)) (exp_words left) (exp_no_end left))
+    (operator_differs operator (codes ";") refl, operand_no_end (is_atom (shape right)) (exp_words right) (exp_no_end right))
 
 -- ---- the value of a field
 
@@ -288,8 +389,8 @@ read_value-past reading (word ∷ rest) list (here, there) =
     ap (λ ends. if ends then (standing reading, word ∷ (rest ++ list)) else read_value (read_word reading word) (rest ++ list)) here
     ∙ read_value-past (read_word reading word) rest list there
 
--- an expression is read up to its semicolon
-pub value_read : (e : Exp) (list : Words) → IsWellFormedExp e → read_value (Wanted []) (exp_words e ++ codes ";" ∷ list) ≡ (Some e, codes ";" ∷ list)
-value_read e list well =
+-- a plain expression is read up to its semicolon
+pub value_read : (e : Exp) (list : Words) → IsPlainExp e → IsWellFormedExp e → read_value (Wanted []) (exp_words e ++ codes ";" ∷ list) ≡ (Some e, codes ";" ∷ list)
+value_read e list plain well =
     read_value-past (Wanted []) (exp_words e) (codes ";" ∷ list) (exp_no_end e)
-    ∙ ap (λ reading. read_value reading (codes ";" ∷ list)) (exp_read e well [] tt)
+    ∙ ap (λ reading. read_value reading (codes ";" ∷ list)) (exp_read e plain well [] tt)

@@ -1,4 +1,5 @@
 -- What the public contract rests on, beside the text and the well formed units of `dj_syntax`.
+pub mod Plain
 pub mod Parsing
 -- What the functions inside the crate promise each other, in reading order.
 pub mod Words

@@ -9,7 +9,7 @@ use crate::words::Reader;
 use dj_syntax::Unit;
 use std::alloc::{AllocError, Global};
 
-/// The unit whose text this is, if it is the text of a well formed unit; any other text is parsed as some unit.
+/// The unit whose text this is, if it is the text of a well formed plain unit; any other text is parsed as some unit.
 pub fn parse_unit(alloc: Global, text: &[u8]) -> Result<Unit, AllocError>
     ensures parsed { IfOk result (λ unit. IsParsed text.now (view_unit unit)) }
 {

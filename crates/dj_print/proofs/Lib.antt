@@ -1,2 +1,6 @@
+pub mod Composing
+pub mod ListTexts
+pub mod NamesAreAscii
 pub mod PrintLemmas
-pub mod WellFormedIsAscii
+pub mod TreeTexts
+pub mod WellFormedLists

@@ -1,4 +1,4 @@
--- What the public contracts rest on, in reading order.
-pub mod Printable
 -- What the functions inside the crate promise each other.
+pub mod Outs
+pub mod OutLaws
 pub mod Spelled

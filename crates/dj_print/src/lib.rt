@@ -1,8 +1,9 @@
-//! The printer: the one text of a unit, as bytes.
-//! It stands on `dj_syntax` for the trees and the text of a unit, and on `dj_names` for names and types.
-//! The layer above uses `unit_bytes`, which answers the text of a unit whose names are below 128.
+//! The printer: the one text of a unit, as bytes or into a sink.
+//! It stands on `dj_syntax` for the trees and the text of a unit, on `dj_names` for names and types, and on `dj_outer` for sinks.
+//! The layer above uses `unit_bytes`, which answers the text of a well formed unit, and `print_unit`, which puts it without memory.
 #![tactic(auto)]
 
+mod out;
 mod print;
 
-pub use print::unit_bytes;
+pub use print::{print_unit, unit_bytes};

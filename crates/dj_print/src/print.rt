@@ -1,12 +1,13 @@
-//! The printer: the one text of a unit, as bytes.
+//! The printer: the one text of a unit, as bytes or into a sink.
 
-ghost use Rattle.std.specs.Prelude.{◌≡◌, ◌++◌, All, IfOk, IfSome, OnOk, map};
-ghost use Rattle.std.specs.List.{flat_map};
+ghost use Rattle.std.specs.Prelude.{◌≡◌, codes, if◌then◌else◌, IfOk, IfSome, is_some, map};
+ghost use Rattle.std.specs.List.{AllByRecursion, flat_map};
+ghost use Rattle.dj_outer.specs.Sink.{Puts};
 ghost use Rattle.dj_syntax.specs.Items.{render};
 ghost use Rattle.dj_syntax.specs.Trees.{view_field, view_method, view_unit};
-ghost use Rattle.dj_syntax.specs.UnitText.{field_items, method_items, members_items, package_items, superclass_items, unit_head_items, unit_items, unit_text};
-ghost use Rattle.dj_print.specs.Printable.{IsAscii, IsAsciiField, IsAsciiMethod, IsAsciiName};
-ghost use Rattle.dj_print.specs.Spelled.{spellings};
+ghost use Rattle.dj_syntax.specs.UnitText.{class_name, field_items, is_interface, method_items, members_items, package_items, superclass_items, unit_head_items, unit_items, unit_text};
+ghost use Rattle.dj_syntax.specs.WellFormed.{IsQualified, IsWellFormed, IsWellFormedField, IsWellFormedMethod};
+ghost use Rattle.dj_print.specs.Spelled.{IsNamedUnit, spellings};
 
 mod expression;
 mod member;
@@ -16,133 +17,146 @@ mod statement;
 mod text;
 mod types;
 
+use crate::out::{Memory, Out, Told};
 use crate::print::member::{field, helper, modifiers};
 use crate::print::method::method;
-use crate::print::names::{Names, class_list, class_name};
-use crate::print::text::{full_name, line, simple_name, text};
+use crate::print::names::{class_list, class_name};
+use crate::print::text::{full_name, line, simple_name};
 use dj_names::ClassName;
+use dj_outer::{Failed, Sink};
 use dj_syntax::{FieldText, MethodText, Unit, class_bits, is_interface};
 use std::alloc::{AllocError, Global};
 
 /// The one text of a unit, as bytes.
 #[tactic(auto, unfolding(dj_syntax::specs::UnitText::unit_text))]
 pub fn unit_bytes(alloc: Global, unit: &Unit) -> Result<Vec<u8>, AllocError>
-    requires printable { IsAscii (view_unit unit.now) }
+    requires well_formed { IsWellFormed (view_unit unit.now) }
     ensures text { IfOk result (λ text. text.items ≡ unit_text (view_unit unit.now)) }
 {
-    let names = Names {
-        own: unit.name.copy(alloc)?,
-    };
-    let mut out = Vec::new(alloc);
-    whole_unit(&mut out, &names, unit)?;
-    Ok(out)
+    let mut out = Memory::new(alloc);
+    whole_unit(&mut out, unit);
+    let Memory { bytes, full } = out;
+    if full {
+        return Err(AllocError);
+    }
+    Ok(bytes)
 }
 
-// Appends a unit.
-fn whole_unit(out: &mut Vec<u8>, names: &Names, unit: &Unit) -> Result<(), AllocError>
-    requires own { IsAsciiName names.now.own }
-    requires printable { IsAscii (view_unit unit.now) }
-    ensures printed { OnOk result (out.new.items ≡ out.old.items ++ render (unit_items (spellings names.now) (view_unit unit.now))) }
+/// Puts the one text of a unit, in pieces and without memory. Where a put fails, none follows.
+#[tactic(auto, unfolding(dj_syntax::specs::UnitText::unit_text))]
+pub fn print_unit<T: Sink>(unit: &Unit, sink: &mut T) -> Result<(), Failed>
+    requires well_formed { IsWellFormed (view_unit unit.now) }
+    ensures puts { Puts result (T.taken sink.old) (T.taken sink.new) (T.faults sink.old) (T.faults sink.new) (unit_text (view_unit unit.now)) }
 {
-    package_line(out, &unit.package)?;
-    head(out, names, unit)?;
-    members(out, names, unit)?;
-    line(out, 0)?;
-    text(out, b"}")?;
-    line(out, 0)
+    let mut out = Told {
+        sink,
+        stopped: false,
+    };
+    whole_unit(&mut out, unit);
+    let Told { sink: _, stopped } = out;
+    if stopped { Err(Failed) } else { Ok(()) }
 }
 
-// Appends the line that names the package, where there is one.
-fn package_line(out: &mut Vec<u8>, name: &Option<ClassName>) -> Result<(), AllocError>
-    requires ascii { IfSome name.now IsAsciiName }
-    ensures printed { OnOk result (out.new.items ≡ out.old.items ++ render (package_items name.now)) }
+// Prints a unit.
+fn whole_unit<O: Out>(out: &mut O, unit: &Unit)
+    requires well_formed { IsWellFormed (view_unit unit.now) }
+    ensures prints { O.prints out.old out.new (render (unit_items (spellings unit.now) (view_unit unit.now))) }
+{
+    package_line(out, &unit.package);
+    head(out, unit);
+    members(out, unit);
+    line(out, 0);
+    out.put(b"}");
+    line(out, 0);
+}
+
+// Prints the line that names the package, where there is one.
+fn package_line<O: Out>(out: &mut O, name: &Option<ClassName>)
+    requires qualified { IfSome name.now IsQualified }
+    ensures prints { O.prints out.old out.new (render (package_items name.now)) }
 {
     match name {
-        None => Ok(()),
+        None => {}
         Some(name) => {
-            text(out, b"package ")?;
-            full_name(out, name.as_slice())?;
-            text(out, b";")?;
-            line(out, 0)
+            out.put(b"package ");
+            full_name(out, name.as_slice());
+            out.put(b";");
+            line(out, 0);
         }
     }
 }
 
-// Appends the head of a class or an interface.
-fn head(out: &mut Vec<u8>, names: &Names, unit: &Unit) -> Result<(), AllocError>
-    requires printable { IsAscii (view_unit unit.now) }
-    ensures printed { OnOk result (out.new.items ≡ out.old.items ++ render (unit_head_items (spellings names.now) (view_unit unit.now))) }
+// Prints the head of a class or an interface.
+fn head<O: Out>(out: &mut O, unit: &Unit)
+    requires well_formed { IsWellFormed (view_unit unit.now) }
+    ensures prints { O.prints out.old out.new (render (unit_head_items (spellings unit.now) (view_unit unit.now))) }
 {
     let interface = is_interface(unit.flags);
-    modifiers(out, unit.flags & class_bits(interface))?;
-    text(out, if interface { b"interface" } else { b"class" })?;
-    text(out, b" ")?;
-    simple_name(out, unit.name.as_slice())?;
-    superclass(out, names, &unit.superclass)?;
-    let keyword: &[u8] = if interface { b"extends" } else { b"implements" };
-    class_list(out, names, keyword, unit.interfaces.as_slice())?;
-    text(out, b" {")
+    modifiers(out, unit.flags & class_bits(interface));
+    out.put(class_word(interface));
+    out.put(b" ");
+    simple_name(out, &unit.name);
+    superclass(out, &unit.superclass, unit);
+    class_list(out, list_word(interface), unit.interfaces.as_slice(), unit);
+    out.put(b" {");
 }
 
-// Appends the superclass, where the text names it.
-fn superclass(
-    out: &mut Vec<u8>,
-    names: &Names,
-    superclass: &Option<ClassName>,
-) -> Result<(), AllocError>
-    requires ascii { IfSome superclass.now IsAsciiName }
-    ensures printed { OnOk result (out.new.items ≡ out.old.items ++ render (superclass_items (spellings names.now) superclass.now)) }
+// The keyword of a class or an interface.
+fn class_word(interface: bool) -> &'static [u8]
+    ensures word { result.now ≡ (if interface then codes "interface" else codes "class") }
+{
+    if interface { b"interface" } else { b"class" }
+}
+
+// The keyword behind which the interfaces above a class or an interface stand.
+fn list_word(interface: bool) -> &'static [u8]
+    ensures word { result.now ≡ (if interface then codes "extends" else codes "implements") }
+{
+    if interface { b"extends" } else { b"implements" }
+}
+
+// Prints the superclass, where the text names it.
+fn superclass<O: Out>(out: &mut O, superclass: &Option<ClassName>, unit: &Unit)
+    requires qualified { IfSome superclass.now IsQualified }
+    ensures prints { O.prints out.old out.new (render (superclass_items (spellings unit.now) superclass.now)) }
 {
     match superclass {
-        None => Ok(()),
+        None => {}
         Some(name) => {
-            text(out, b" extends ")?;
-            class_name(out, names, name)
+            out.put(b" extends ");
+            class_name(out, name, unit);
         }
     }
 }
 
-// Appends the fields, the helper, then the methods and constructors.
-fn members(out: &mut Vec<u8>, names: &Names, unit: &Unit) -> Result<(), AllocError>
-    requires printable { IsAscii (view_unit unit.now) }
-    requires own { IsAsciiName names.now.own }
-    ensures printed { OnOk result (out.new.items ≡ out.old.items ++ render (members_items (spellings names.now) (view_unit unit.now))) }
+// Prints the fields, the helper, then the methods and constructors.
+fn members<O: Out>(out: &mut O, unit: &Unit)
+    requires well_formed { IsWellFormed (view_unit unit.now) }
+    ensures prints { O.prints out.old out.new (render (members_items (spellings unit.now) (view_unit unit.now))) }
 {
     let interface = is_interface(unit.flags);
-    fields(out, names, interface, unit.fields.as_slice())?;
-    helper(out, &unit.helper)?;
-    methods(out, names, interface, unit.methods.as_slice())
+    fields(out, unit.fields.as_slice(), interface, unit);
+    helper(out, &unit.helper);
+    methods(out, unit.methods.as_slice(), interface, unit);
 }
 
-// Appends fields, in order.
-fn fields(
-    out: &mut Vec<u8>,
-    names: &Names,
-    interface: bool,
-    fields: &[FieldText],
-) -> Result<(), AllocError>
-    requires ascii { All IsAsciiField (map view_field fields.now) }
-    ensures printed { OnOk result (out.new.items ≡ out.old.items ++ render (flat_map (field_items (spellings names.now) interface) (map view_field fields.now))) }
+// Prints fields, in order.
+fn fields<O: Out>(out: &mut O, fields: &[FieldText], interface: bool, unit: &Unit)
+    requires well_formed { AllByRecursion (IsWellFormedField interface) (map view_field fields.now) }
+    ensures prints { O.prints out.old out.new (render (flat_map (field_items (spellings unit.now) interface) (map view_field fields.now))) }
 {
     for one in fields {
-        field(out, names, interface, one)?;
+        field(out, one, interface, unit);
     }
-    Ok(())
 }
 
-// Appends methods and constructors, in order.
-fn methods(
-    out: &mut Vec<u8>,
-    names: &Names,
-    interface: bool,
-    methods: &[MethodText],
-) -> Result<(), AllocError>
-    requires own { IsAsciiName names.now.own }
-    requires ascii { All IsAsciiMethod (map view_method methods.now) }
-    ensures printed { OnOk result (out.new.items ≡ out.old.items ++ render (flat_map (method_items (spellings names.now) interface) (map view_method methods.now))) }
+// Prints methods and constructors, in order.
+fn methods<O: Out>(out: &mut O, methods: &[MethodText], interface: bool, unit: &Unit)
+    requires named { IsNamedUnit (view_unit unit.now) }
+    requires well_formed { AllByRecursion (IsWellFormedMethod interface (is_some unit.now.helper) (class_name (view_unit unit.now))) (map view_method methods.now) }
+    ensures prints { O.prints out.old out.new (render (flat_map (method_items (spellings unit.now) interface) (map view_method methods.now))) }
 {
     for one in methods {
-        method(out, names, interface, one)?;
+        method(out, one, interface, unit);
     }
-    Ok(())
 }

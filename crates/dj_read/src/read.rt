@@ -1,4 +1,4 @@
-//! The reader of units: exactly the bytes that are the text of a well formed unit are read, as that unit.
+//! The reader of units: bytes are read as the well formed unit whose text they are, and as one wherever they are that of a plain one.
 
 ghost use Rattle.std.specs.Prelude.{◌≡◌, ◌↔◌, IfErr, IfOk, IsTrue};
 ghost use Rattle.dj_syntax.specs.Trees.{view_unit};
@@ -16,7 +16,7 @@ use thiserror::Error;
 /// Why bytes aren't read as a unit.
 #[derive(Debug, Drop, Error)]
 pub enum ReadUnitFault {
-    #[error("the bytes are the text of no unit")]
+    #[error("the bytes are the text of no plain unit")]
     Misread,
     #[error(transparent)]
     Memory(AllocError),

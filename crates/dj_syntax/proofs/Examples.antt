@@ -1,14 +1,13 @@
 -- The definition of the text at worked examples, by computation: a wrong definition is refused here.
-use Rattle.std.proofs.Common.{◌≡◌, negsuc, List, [], ◌∷◌, ◌++◌, Some, None, refl}
+use Rattle.std.proofs.Common.{◌≡◌, List, [], ◌∷◌, ◌++◌, Some, None, refl}
 use Rattle.std.specs.Prelude.{codes}
 use Rattle.std.specs.Fmt.{digits}
 use Rattle.dj_names.specs.Types.{Int, Method}
 use Rattle.dj_syntax.specs.declared.operator.Op.TheVariants as op
 use Rattle.dj_syntax.specs.declared.variable.VarKind.TheVariants as kind
-use Rattle.dj_syntax.specs.Trees.{Exp, Variable, Binary, Return, Empty, And, Body, CompilationUnit}
+use Rattle.dj_syntax.specs.Trees.{Exp, Variable, Binary, Return, Empty, And, CompilationUnit}
 use Rattle.dj_syntax.specs.Trees as trees
-use Rattle.dj_syntax.specs.Items.{render}
-use Rattle.dj_syntax.specs.UnitText.{exp_items, full_names, unit_text}
+use Rattle.dj_syntax.specs.UnitText.{unit_text}
 
 -- the class `C` with these methods
 abbrev class_c : List trees.MethodText → CompilationUnit
@@ -54,8 +53,3 @@ a_difference = refl
 no_member : unit_text (class_c []) ≡ codes "public class C {" ++ 10 ∷ codes "}" ++ 10 ∷ []
 unfolding unit_text digits
 no_member = refl
-
--- a negative literal stands in parentheses as an operand
-a_negative_operand : render (exp_items (full_names (class_c [])) (Binary op.Mul (trees.Int (negsuc 4)) difference)) ≡ codes "(-5) * (p0 - p1)"
-unfolding digits
-a_negative_operand = refl

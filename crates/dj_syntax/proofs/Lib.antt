@@ -1,2 +1,5 @@
 pub mod Examples
 pub mod MethodNames
+pub mod TreeExamples
+pub mod TreeLists
+pub mod TreeViews

@@ -1,129 +1,14 @@
--- The one text of a unit, as items: names, types and expressions, then the lines of statements and members (JLS 3, 6 to 9, 14, 15).
-use Rattle.std.specs.Prelude.{ℕ, pos, negsuc, suc, ◌+◌, ◌==◌, Bool, true, false, not, ◌&&◌, if◌then◌else◌, nat_eq, List, [], ◌∷◌, ◌++◌, map, Option, Some, None, is_some, bit_and, codes}
+-- The one text of a unit, as items: the lines of members, with their statements and expressions (JLS 3, 6 to 9, 14, 15).
+use Rattle.std.specs.Prelude.{ℕ, ◌+◌, ◌==◌, Bool, not, ◌&&◌, if◌then◌else◌, nat_eq, List, [], ◌∷◌, ◌++◌, map, Option, Some, None, is_some, bit_and, codes}
 use Rattle.std.specs.List.{flat_map}
 use Rattle.std.specs.Fmt.{decimal}
 use lib.Pointwise.{pointwise}
-use Rattle.dj_names.specs.ClassNames.{segments}
-use Rattle.dj_names.specs.Types.{JType, Boolean, Byte, Char, Short, Int, Long, Float, Double, Class, Array, parameters_of, result_of}
-use Rattle.dj_syntax.specs.declared.operator.Op.{Op}
-use Rattle.dj_syntax.specs.declared.operator.Op.TheVariants as op
-use Rattle.dj_syntax.specs.declared.variable.VarKind.{VarKind}
-use Rattle.dj_syntax.specs.declared.variable.VarKind.TheVariants as kind
-use Rattle.dj_syntax.specs.declared.variable.Var.{Var}
-use Rattle.dj_syntax.specs.Trees.{Exp, Variable, Binary, Stm, Block, Return, Stms, Empty, And, Body, FieldText, MethodText, CompilationUnit}
-use Rattle.dj_syntax.specs.Trees as trees
-use Rattle.dj_syntax.specs.Items.{Name, Number, Sign, Item, Word, Space, Line, render, separated}
-
--- a keyword or a name
-abbrev pub word : List ℕ → Item
-word characters = Word (Name characters)
-
--- a sign of punctuation or an operator
-abbrev pub sign : List ℕ → Item
-sign characters = Word (Sign characters)
-
--- how a unit writes a class's name, and the simple name that its constructors have
-pub record Spellings : Type 0 where
-  pub class_name : List ℕ → List Item
-  pub own : List ℕ
-
--- ---- names
-
--- a class's name in full, with dots (JLS 6.7)
-abbrev pub dotted : List ℕ → List Item
-dotted name = separated (sign (codes ".") ∷ []) (map (λ segment. word segment ∷ []) (segments name))
-
--- the letter of a kind of variable
-abbrev pub letter : VarKind → ℕ
-letter kind.Param = 112
-letter kind.Local = 118
-letter kind.Caught = 101
-letter kind.State = 115
-
--- a variable: its kind's letter and its number
-abbrev pub variable_name : Var → List ℕ
-variable_name variable = letter variable.kind ∷ decimal variable.number
-
--- ---- types
-
--- a type, an array as its element's type and a pair of brackets (JLS 4.1)
-abbrev pub type_items : Spellings → JType → List Item
-type_items names Boolean = word (codes "boolean") ∷ []
-type_items names Byte = word (codes "byte") ∷ []
-type_items names Char = word (codes "char") ∷ []
-type_items names Short = word (codes "short") ∷ []
-type_items names Int = word (codes "int") ∷ []
-type_items names Long = word (codes "long") ∷ []
-type_items names Float = word (codes "float") ∷ []
-type_items names Double = word (codes "double") ∷ []
-type_items names (Class name) = names.class_name name
-type_items names (Array element) = type_items names element ++ sign (codes "[") ∷ sign (codes "]") ∷ []
-
--- a result: a type, or `void`
-abbrev pub result_items : Spellings → Option JType → List Item
-result_items names None = word (codes "void") ∷ []
-result_items names (Some kind) = type_items names kind
-
--- ---- expressions
-
--- the spelling of an operator
-abbrev pub operator_text : Op → List ℕ
-operator_text op.Mul = codes "*"
-operator_text op.Div = codes "/"
-operator_text op.Rem = codes "%"
-operator_text op.Add = codes "+"
-operator_text op.Sub = codes "-"
-operator_text op.Shl = codes "<<"
-operator_text op.Shr = codes ">>"
-operator_text op.Ushr = codes ">>>"
-operator_text op.Lt = codes "<"
-operator_text op.Le = codes "<="
-operator_text op.Gt = codes ">"
-operator_text op.Ge = codes ">="
-operator_text op.Eq = codes "=="
-operator_text op.Ne = codes "!="
-operator_text op.And = codes "&"
-operator_text op.Xor = codes "^"
-operator_text op.Or = codes "|"
-operator_text op.AndAlso = codes "&&"
-operator_text op.OrElse = codes "||"
-
--- an expression that needs no parentheses as an operand: a literal of 0 or more, a variable
-abbrev pub is_atom : Exp → Bool
-is_atom (trees.Int (pos n)) = true
-is_atom (trees.Int (negsuc n)) = false
-is_atom (Variable variable) = true
-is_atom (Binary operator left right) = false
-
--- items in parentheses, unless they are those of an atom
-abbrev pub operand : Bool → List Item → List Item
-operand true items = items
-operand false items = sign (codes "(") ∷ (items ++ sign (codes ")") ∷ [])
-
--- an expression; a negative literal is a minus sign and digits
-abbrev pub exp_items : Spellings → Exp → List Item
-exp_items names (trees.Int (pos n)) = Word (Number n) ∷ []
-exp_items names (trees.Int (negsuc n)) = sign (codes "-") ∷ Word (Number (suc n)) ∷ []
-exp_items names (Variable variable) = word (variable_name variable) ∷ []
-exp_items names (Binary operator left right) =
-    operand (is_atom left) (exp_items names left)
-    ++ Space ∷ sign (operator_text operator) ∷ Space ∷ operand (is_atom right) (exp_items names right)
-
--- ---- statements
-
-abbrev mutual
-  -- a statement on lines of its own at this level, each with the line end before it
-  pub stm_items : Spellings → ℕ → Stm → List Item
-  stm_items names depth (Block list) =
-      Line depth ∷ sign (codes "{") ∷ (stms_items names (depth + 1) list ++ Line depth ∷ sign (codes "}") ∷ [])
-  stm_items names depth (Return None) = Line depth ∷ word (codes "return") ∷ sign (codes ";") ∷ []
-  stm_items names depth (Return (Some value)) =
-      Line depth ∷ word (codes "return") ∷ Space ∷ (exp_items names value ++ sign (codes ";") ∷ [])
-
-  -- statements at this level, in order
-  pub stms_items : Spellings → ℕ → Stms → List Item
-  stms_items names depth Empty = []
-  stms_items names depth (And first rest) = stm_items names depth first ++ stms_items names depth rest
+use Rattle.dj_names.specs.Types.{JType, parameters_of, result_of}
+use Rattle.dj_syntax.specs.Trees.{Body, FieldText, MethodText, CompilationUnit}
+use Rattle.dj_syntax.specs.Items.{Item, Space, Line, render, separated}
+pub use Rattle.dj_syntax.specs.NameText.{word, sign, Spellings, dotted, letter, variable_name, label_name, type_items, result_items}
+pub use Rattle.dj_syntax.specs.ExpText.{operator_text, number_shape, shape, is_atom, is_receiver, is_negated, parenthesised, operand, int_items, long_items, truth_text, super_items, pairs_items, exp_items, arguments_items, more_arguments, sizes_items}
+pub use Rattle.dj_syntax.specs.StmText.{deeper, stored_items, value_items, answer_items, braced, headed, is_empty, else_items, case_items, rethrow_items, stm_items, stms_items, groups_items, catches_items}
 
 -- ---- modifiers
 
@@ -167,11 +52,6 @@ abbrev pub is_initialiser : List ℕ → Bool
 is_initialiser name = pointwise nat_eq name (codes "<clinit>")
 
 -- ---- members, each on lines of its own at level 1 with the line end before it
-
--- the value of a field, where it has one, and the end of its line
-abbrev pub value_items : Spellings → Option Exp → List Item
-value_items names None = sign (codes ";") ∷ []
-value_items names (Some value) = Space ∷ sign (codes "=") ∷ Space ∷ (exp_items names value ++ sign (codes ";") ∷ [])
 
 -- a field: modifiers, type, name and value
 abbrev pub field_items : Spellings → Bool → FieldText → List Item
@@ -270,9 +150,22 @@ abbrev pub unit_items : Spellings → CompilationUnit → List Item
 unit_items names unit =
     package_items unit.«package» ++ (unit_head_items names unit ++ (members_items names unit ++ Line 0 ∷ sign (codes "}") ∷ Line 0 ∷ []))
 
+-- the name of a unit's class: its package's segments and its own
+abbrev pub class_name : CompilationUnit → List ℕ
+class_name unit = in_package unit.«package» unit.name
+  where
+    in_package : Option (List ℕ) → List ℕ → List ℕ
+    in_package None name = name
+    in_package (Some package_name) name = package_name ++ 47 ∷ name
+
+-- the name of a unit's helper, empty where it has none
+abbrev pub helper_name : Option (List ℕ) → List ℕ
+helper_name None = []
+helper_name (Some name) = name
+
 -- every class's name in full
 abbrev pub full_names : CompilationUnit → Spellings
-full_names unit = record { class_name = dotted; own = unit.name }
+full_names unit = record { class_name = dotted; own = unit.name; class = class_name unit; helper = helper_name unit.helper }
 
 -- the one text of a unit, as characters
 unfoldable pub unit_text : CompilationUnit → List ℕ

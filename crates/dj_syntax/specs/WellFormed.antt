@@ -1,32 +1,14 @@
--- Which trees have a text: names are names, and a head says what its members are (JLS 3.8, 8, 9).
-use Rattle.std.specs.Prelude.{◌≡◌, ◌≢◌, ℕ, ◌==◌, Bool, true, false, IsTrue, IsFalse, ◌&&◌, not, if◌then◌else◌, List, [], ◌∷◌, ◌++◌, Option, Some, None, IfSome, is_some, bit_and, bit_or, codes, ◌<◌, ◌^◌, FitsSigned}
-use Rattle.std.specs.Int.{w32}
+-- Which units have a text: names are names, and a head says what its members are (JLS 3.8, 8, 9).
+use Rattle.std.specs.Prelude.{◌≡◌, ◌≢◌, ℕ, ◌==◌, Bool, true, false, IsTrue, IsFalse, ◌&&◌, not, if◌then◌else◌, List, [], ◌∷◌, ◌++◌, Option, Some, None, IfSome, is_some, bit_and, bit_or, codes}
 use Rattle.std.specs.List.{AllByRecursion}
-use Rattle.dj_names.specs.ClassNames.{segments}
-use Rattle.dj_names.specs.Types.{JType, Boolean, Byte, Char, Short, Int, Long, Float, Double, Class, Array, Descriptor, Field, Method, result_of}
+use Rattle.dj_names.specs.Types.{JType, Descriptor, Field, Method, result_of}
 use Rattle.dj_names.specs.Identifiers.{IsDigit, IsIdentifier}
-use Rattle.dj_syntax.specs.Trees.{Exp, Variable, Binary, Stm, Block, Return, Stms, Empty, And, Body, FieldText, MethodText, CompilationUnit}
-use Rattle.dj_syntax.specs.Trees as trees
+use Rattle.dj_syntax.specs.Trees.{Body, FieldText, MethodText, CompilationUnit}
 use Rattle.dj_syntax.specs.UnitText.{is_constructor, is_initialiser, is_interface, class_bits, field_bits, method_bits}
+pub use Rattle.dj_syntax.specs.UnitText.{class_name}
+pub use Rattle.dj_syntax.specs.WellFormedTrees.{IsQualified, IsNamed, is_array, IsVariable, has_no_exp, IsWellFormedExp, AreWellFormedExps, is_call, is_declaration, has_no_group, has_no_catch, IsCase, IsWellFormedStm, AreWellFormedStms, AreWellFormedGroups, AreWellFormedCatches}
 
 -- ---- names
-
--- a name of segments with slashes between them, each an identifier
-abbrev pub IsQualified : List ℕ → Type 0
-IsQualified name = AllByRecursion IsIdentifier (segments name)
-
--- each class that a type names is one that can be written
-abbrev pub IsNamed : JType → Type 0
-IsNamed Boolean = Unit {0}
-IsNamed Byte = Unit {0}
-IsNamed Char = Unit {0}
-IsNamed Short = Unit {0}
-IsNamed Int = Unit {0}
-IsNamed Long = Unit {0}
-IsNamed Float = Unit {0}
-IsNamed Double = Unit {0}
-IsNamed (Class name) = IsQualified name
-IsNamed (Array element) = IsNamed element
 
 -- a method's descriptor, each type of which can be written
 abbrev pub IsMethodDescriptor : Descriptor → Type 0
@@ -89,25 +71,6 @@ HasMethodName method =
     cond_type (is_constructor method.name) (result_of method.descriptor ≡ None)
     (cond_type (is_initialiser method.name) (IsInitialiser method) (IsIdentifier method.name))
 
--- ---- statements
-
--- an int literal of 32 bits, a variable with a number of 32 bits
-abbrev pub IsWellFormedExp : Exp → Type 0
-IsWellFormedExp (trees.Int number) = FitsSigned w32 number
-IsWellFormedExp (Variable variable) = variable.number < 2 ^ 32
-IsWellFormedExp (Binary operator left right) = IsWellFormedExp left × IsWellFormedExp right
-
-abbrev mutual
-  -- a statement whose expressions are well formed
-  pub IsWellFormedStm : Stm → Type 0
-  IsWellFormedStm (Block list) = AreWellFormedStms list
-  IsWellFormedStm (Return value) = IfSome value IsWellFormedExp
-
-  -- statements, each well formed
-  pub AreWellFormedStms : Stms → Type 0
-  AreWellFormedStms Empty = Unit {0}
-  AreWellFormedStms (And first rest) = IsWellFormedStm first × AreWellFormedStms rest
-
 -- ---- members
 
 -- a field of a class or interface
@@ -117,26 +80,18 @@ pub record IsWellFormedField (interface : Bool) (field : FieldText) : Type 0 whe
   pub flags : field.flags ≡ held_field interface field
   pub value : IfSome field.value IsWellFormedExp
 
--- a body that stands in a method of a class
-pub record IsWellFormedBody (class : List ℕ) (method : MethodText) (body : Body) : Type 0 where
+-- a body that stands in a method of a class, given whether its unit has a helper
+pub record IsWellFormedBody (helper : Bool) (class : List ℕ) (method : MethodText) (body : Body) : Type 0 where
   pub head : HasHeadOf class method body
-  pub statements : AreWellFormedStms body.statements
+  pub statements : AreWellFormedStms helper body.statements
 
--- a method of a class or interface
-pub record IsWellFormedMethod (interface : Bool) (class : List ℕ) (method : MethodText) : Type 0 where
+-- a method of a class or interface, given whether its unit has a helper
+pub record IsWellFormedMethod (interface helper : Bool) (class : List ℕ) (method : MethodText) : Type 0 where
   pub name : HasMethodName method
   pub descriptor : IsMethodDescriptor method.descriptor
   pub thrown : AllByRecursion IsQualified method.thrown
   pub flags : method.flags ≡ held_method interface method
-  pub body : IfSome method.body (IsWellFormedBody class method)
-
--- the name of a unit's class: its package's segments and its own
-abbrev pub class_name : CompilationUnit → List ℕ
-class_name unit = in_package unit.«package» unit.name
-  where
-    in_package : Option (List ℕ) → List ℕ → List ℕ
-    in_package None name = name
-    in_package (Some package_name) name = package_name ++ 47 ∷ name
+  pub body : IfSome method.body (IsWellFormedBody helper class method)
 
 -- an interface names no superclass, a class none that it has without a word
 abbrev pub IsSuperclass : Bool → List ℕ → Type 0
@@ -151,4 +106,4 @@ pub record IsWellFormed (unit : CompilationUnit) : Type 0 where
   pub interfaces : AllByRecursion IsQualified unit.interfaces
   pub fields : AllByRecursion (IsWellFormedField (is_interface unit.flags)) unit.fields
   pub helper : IfSome unit.helper IsHelperName
-  pub methods : AllByRecursion (IsWellFormedMethod (is_interface unit.flags) (class_name unit)) unit.methods
+  pub methods : AllByRecursion (IsWellFormedMethod (is_interface unit.flags) (is_some unit.helper) (class_name unit)) unit.methods

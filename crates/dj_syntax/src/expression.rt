@@ -1,45 +1,50 @@
 //! Expressions (JLS 15).
 
-ghost use Rattle.std.specs.Prelude.{◌≡◌, IfOk};
+mod copied;
 
+pub use crate::expression::copied::{copy_boxed, copy_exps, copy_name, copy_option};
 use crate::operator::Op;
 use crate::variable::Var;
-use dj_names::Boxed;
-use std::alloc::{AllocError, Global};
+use dj_names::{Boxed, ClassName, Items, JType, Units};
 
 /// An expression.
 #[derive(Drop)]
 pub enum Exp {
     /// An int literal, a negative one with its sign.
     Int(i32),
+    /// A long literal, a negative one with its sign.
+    Long(i64),
+    /// A string literal, by its units (JLS 3.10.5).
+    Text(Units),
+    Bool(bool),
+    Null,
+    This,
     Var(Var),
+    /// A class literal (JLS 15.8.2).
+    ClassOf(JType),
+    /// A field of an object; `length` of an array is its length.
+    Field(Boxed<Exp>, Units),
+    /// A static field of a class.
+    Static(ClassName, Units),
+    /// An element of an array at an index.
+    Element(Boxed<Exp>, Boxed<Exp>),
+    /// A call of an object's method.
+    Call(Boxed<Exp>, Units, Items<Exp>),
+    /// A call of a class's static method.
+    StaticCall(ClassName, Units, Items<Exp>),
+    /// A call of a method above: of an interface, where one is named, or of the superclass (JLS 15.12.1).
+    SuperCall(Option<ClassName>, Units, Items<Exp>),
+    New(ClassName, Items<Exp>),
+    /// A new array: the type of its innermost elements, its sizes, and how many dimensions have none (JLS 15.10).
+    NewArray(JType, Items<Exp>, u32),
+    Cast(JType, Boxed<Exp>),
+    InstanceOf(Boxed<Exp>, JType),
+    /// A minus sign before its operand.
+    Negative(Boxed<Exp>),
+    Not(Boxed<Exp>),
     /// An operator between its left and its right operand.
     Binary(Op, Boxed<Exp>, Boxed<Exp>),
-}
-
-impl Exp {
-    /// An equal expression.
-    pub fn copy(&self, alloc: Global) -> Result<Exp, AllocError>
-        ensures equal { IfOk result (λ copy. copy ≡ self.now) }
-    {
-        match self {
-            Exp::Int(value) => Ok(Exp::Int(*value)),
-            Exp::Var(variable) => Ok(Exp::Var(*variable)),
-            Exp::Binary(op, left, right) => {
-                let left = Boxed::new(alloc, left.get().copy(alloc)?)?;
-                let right = Boxed::new(alloc, right.get().copy(alloc)?)?;
-                Ok(Exp::Binary(*op, left, right))
-            }
-        }
-    }
-}
-
-/// An equal expression, where there is one.
-pub fn copy_option(alloc: Global, value: &Option<Exp>) -> Result<Option<Exp>, AllocError>
-    ensures equal { IfOk result (λ copy. copy ≡ value.now) }
-{
-    match value {
-        Some(value) => Ok(Some(value.copy(alloc)?)),
-        None => Ok(None),
-    }
+    /// A test, what is taken where it is true, and what else (JLS 15.25).
+    Choice(Boxed<Exp>, Boxed<Exp>, Boxed<Exp>),
+    Assign(Var, Boxed<Exp>),
 }

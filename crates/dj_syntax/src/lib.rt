@@ -7,9 +7,11 @@ mod expression;
 mod flags;
 mod method_names;
 mod operator;
+mod shape;
 mod statement;
 mod unit;
 mod variable;
+mod weights;
 
 pub use expression::Exp;
 pub use flags::{
@@ -17,6 +19,8 @@ pub use flags::{
 };
 pub use method_names::{is_constructor, is_initialiser};
 pub use operator::Op;
-pub use statement::Stm;
+pub use shape::Shape;
+pub use statement::{Catch, Group, Stm};
 pub use unit::{Body, FieldText, MethodText, Unit};
 pub use variable::{Var, VarKind};
+pub use weights::weight;

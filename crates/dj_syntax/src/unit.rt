@@ -2,7 +2,7 @@
 
 ghost use Rattle.std.specs.Prelude.{◌≡◌, IfOk};
 
-use crate::expression::{Exp, copy_option};
+use crate::expression::{Exp, copy_name, copy_option};
 use crate::statement::{Stm, copy_list};
 use dj_names::{ClassName, Descriptor, Items, JType, Units, copy_names};
 use std::alloc::{AllocError, Global};
@@ -192,15 +192,6 @@ fn copy_head(
     let thrown = copy_names(alloc, thrown.as_slice())?;
     let name = name.copy(alloc)?;
     Ok((name, descriptor.copy(alloc)?, thrown))
-}
-
-fn copy_name(alloc: Global, name: &Option<ClassName>) -> Result<Option<ClassName>, AllocError>
-    ensures equal { IfOk result (λ copy. copy ≡ name.now) }
-{
-    match name {
-        Some(name) => Ok(Some(name.copy(alloc)?)),
-        None => Ok(None),
-    }
 }
 
 fn copy_helper(alloc: Global, name: &Option<Units>) -> Result<Option<Units>, AllocError>

@@ -1,3 +1,5 @@
+pub mod EmptyLists
+pub mod GroupTests
 pub mod HelperNames
 pub mod ListTests
 pub mod SameLists

@@ -3,10 +3,11 @@
 //! The layer above uses `is_well_formed`, whose clause `exact` says that it decides `IsWellFormed`.
 #![tactic(auto)]
 
+mod expressions;
 mod members;
 mod names;
 mod same;
-mod trees;
+mod statements;
 mod unit;
 
 pub use unit::is_well_formed;

@@ -1,15 +1,16 @@
 //! Fields, methods, constructors and static initialisers of a unit, and their bodies (JLS 8.3 to 8.8, 9.3, 9.4).
 
-ghost use Rattle.std.specs.Prelude.{◌≡◌, ◌↔◌, [], ◌∷◌, ◌++◌, IsTrue, IfSome, map};
+ghost use Rattle.std.specs.Prelude.{◌≡◌, ◌↔◌, [], ◌∷◌, ◌++◌, IsTrue, IfSome, is_some, map};
 ghost use Rattle.std.specs.List.{AllByRecursion};
 ghost use Rattle.dj_names.specs.Types.{Method, result_of, view_descriptor};
 ghost use Rattle.dj_syntax.specs.Trees.{view_body, view_field, view_method, view_unit};
 ghost use Rattle.dj_syntax.specs.UnitText.{is_interface};
 ghost use Rattle.dj_syntax.specs.WellFormed.{HasHeadOf, HasMethodName, IsInitialiser, IsWellFormedBody, IsWellFormedField, IsWellFormedMethod, class_name};
 
+use crate::expressions::is_well_formed_value;
 use crate::names::{SLASH, are_qualified, behind, is_joined, is_method_descriptor, is_named};
 use crate::same::{same_descriptor, same_names};
-use crate::trees::{are_well_formed_stms, is_well_formed_value};
+use crate::statements::are_well_formed_stms;
 use dj_names::{Descriptor, is_identifier};
 use dj_syntax::{
     Body, FieldText, MethodText, Unit, held_field, held_method, is_constructor, is_initialiser,
@@ -37,7 +38,7 @@ fn is_well_formed_field(interface: bool, field: &FieldText) -> bool
 
 /// Whether each method is well formed in this unit.
 pub fn are_well_formed_methods(unit: &Unit, methods: &[MethodText]) -> bool
-    ensures well_formed { IsTrue result ↔ AllByRecursion (IsWellFormedMethod (is_interface unit.now.flags) (class_name (view_unit unit.now))) (map view_method methods.now) }
+    ensures well_formed { IsTrue result ↔ AllByRecursion (IsWellFormedMethod (is_interface unit.now.flags) (is_some unit.now.helper) (class_name (view_unit unit.now))) (map view_method methods.now) }
 {
     methods
         .iter()
@@ -46,7 +47,7 @@ pub fn are_well_formed_methods(unit: &Unit, methods: &[MethodText]) -> bool
 
 /// Whether a method is well formed in this unit.
 fn is_well_formed_method(unit: &Unit, method: &MethodText) -> bool
-    ensures well_formed { IsTrue result ↔ IsWellFormedMethod (is_interface unit.now.flags) (class_name (view_unit unit.now)) (view_method method.now) }
+    ensures well_formed { IsTrue result ↔ IsWellFormedMethod (is_interface unit.now.flags) (is_some unit.now.helper) (class_name (view_unit unit.now)) (view_method method.now) }
 {
     has_method_name(method)
         && is_method_descriptor(&method.descriptor)
@@ -103,12 +104,13 @@ fn takes_and_gives_nothing(descriptor: &Descriptor) -> bool
 
 /// Whether a method has no body, or one with the head of the method in this unit.
 fn is_well_formed_body(unit: &Unit, method: &MethodText) -> bool
-    ensures well_formed { IsTrue result ↔ IfSome (view_method method.now).body (IsWellFormedBody (class_name (view_unit unit.now)) (view_method method.now)) }
+    ensures well_formed { IsTrue result ↔ IfSome (view_method method.now).body (IsWellFormedBody (is_some unit.now.helper) (class_name (view_unit unit.now)) (view_method method.now)) }
 {
     match &method.body {
         None => true,
         Some(body) => {
-            has_head_of(unit, method, body) && are_well_formed_stms(body.statements.as_slice())
+            has_head_of(unit, method, body)
+                && are_well_formed_stms(body.statements.as_slice(), unit.helper.is_some())
         }
     }
 }

@@ -1,99 +1,78 @@
 //! Modifiers, fields and the helper, members on lines of their own with the line end before them.
 
-ghost use Rattle.std.specs.Prelude.{◌≡◌, ◌++◌, IfSome, OnOk, option_map};
+ghost use Rattle.std.specs.Prelude.{◌≡◌, IfSome};
 ghost use Rattle.dj_syntax.specs.Items.{render};
-ghost use Rattle.dj_syntax.specs.Trees.{view_exp, view_field};
-ghost use Rattle.dj_syntax.specs.UnitText.{field_items, helper_items, modifiers_items, modifier_items, value_items};
-ghost use Rattle.dj_print.specs.Printable.{IsAsciiField, IsAsciiName};
+ghost use Rattle.dj_syntax.specs.Trees.{view_field};
+ghost use Rattle.dj_syntax.specs.UnitText.{field_items, helper_items, modifiers_items, modifier_items};
+ghost use Rattle.dj_syntax.specs.WellFormed.{IsHelperName, IsWellFormedField};
 ghost use Rattle.dj_print.specs.Spelled.{spellings};
 
-use crate::print::expression::expression;
-use crate::print::names::Names;
-use crate::print::text::{line, simple_name, text};
+use crate::out::Out;
+use crate::print::statement::first_value;
+use crate::print::text::{ascii, line, simple_name};
 use crate::print::types::type_name;
 use dj_names::Units;
-use dj_syntax::{Exp, FieldText, field_bits};
-use std::alloc::AllocError;
+use dj_syntax::{FieldText, Unit, field_bits};
 
-/// Appends the modifiers whose bits are among these, each with a space behind it.
-pub fn modifiers(out: &mut Vec<u8>, bits: u16) -> Result<(), AllocError>
-    ensures printed { OnOk result (out.new.items ≡ out.old.items ++ render (modifiers_items bits)) }
+/// Prints the modifiers whose bits are among these, each with a space behind it.
+pub fn modifiers<O: Out>(out: &mut O, bits: u16)
+    ensures prints { O.prints out.old out.new (render (modifiers_items bits)) }
 {
-    modifier(out, bits, 0x0001, b"public")?;
-    modifier(out, bits, 0x0004, b"protected")?;
-    modifier(out, bits, 0x0002, b"private")?;
-    modifier(out, bits, 0x0400, b"abstract")?;
-    modifier(out, bits, 0x0008, b"static")?;
-    modifier(out, bits, 0x0010, b"final")?;
-    modifier(out, bits, 0x0020, b"synchronized")?;
-    modifier(out, bits, 0x0100, b"native")?;
-    modifier(out, bits, 0x0080, b"transient")?;
-    modifier(out, bits, 0x0040, b"volatile")?;
-    Ok(())
+    modifier(out, bits, 0x0001, b"public");
+    modifier(out, bits, 0x0004, b"protected");
+    modifier(out, bits, 0x0002, b"private");
+    modifier(out, bits, 0x0400, b"abstract");
+    modifier(out, bits, 0x0008, b"static");
+    modifier(out, bits, 0x0010, b"final");
+    modifier(out, bits, 0x0020, b"synchronized");
+    modifier(out, bits, 0x0100, b"native");
+    modifier(out, bits, 0x0080, b"transient");
+    modifier(out, bits, 0x0040, b"volatile");
 }
 
-// Appends one modifier and a space, where its bit is among these.
-fn modifier(out: &mut Vec<u8>, bits: u16, bit: u16, word: &[u8]) -> Result<(), AllocError>
-    ensures printed { OnOk result (out.new.items ≡ out.old.items ++ render (modifier_items bits (bit, word.now))) }
+// Prints one modifier and a space, where its bit is among these.
+fn modifier<O: Out>(out: &mut O, bits: u16, bit: u16, word: &[u8])
+    ensures prints { O.prints out.old out.new (render (modifier_items bits (bit, word.now))) }
 {
     if bits & bit == 0 {
-        return Ok(());
+        return;
     }
-    text(out, word)?;
-    text(out, b" ")
+    out.put(word);
+    out.put(b" ");
 }
 
-/// Appends a field: modifiers, type, name and value.
-pub fn field(
-    out: &mut Vec<u8>,
-    names: &Names,
-    interface: bool,
-    field: &FieldText,
-) -> Result<(), AllocError>
-    requires ascii { IsAsciiField (view_field field.now) }
-    ensures printed { OnOk result (out.new.items ≡ out.old.items ++ render (field_items (spellings names.now) interface (view_field field.now))) }
+/// Prints a field: modifiers, type, name and value.
+pub fn field<O: Out>(out: &mut O, field: &FieldText, interface: bool, unit: &Unit)
+    requires well_formed { IsWellFormedField interface (view_field field.now) }
+    ensures prints { O.prints out.old out.new (render (field_items (spellings unit.now) interface (view_field field.now))) }
 {
-    line(out, 1)?;
+    line(out, 1);
     modifiers(
         out,
         field.flags & field_bits(interface, field.value.is_some()),
-    )?;
-    type_name(out, names, &field.kind)?;
-    text(out, b" ")?;
-    simple_name(out, field.name.as_slice())?;
-    value(out, names, &field.value)
+    );
+    type_name(out, &field.kind, unit);
+    out.put(b" ");
+    simple_name(out, &field.name);
+    first_value(out, &field.value, unit);
 }
 
-// Appends the value of a field, where it has one, and the end of the field.
-fn value(out: &mut Vec<u8>, names: &Names, value: &Option<Exp>) -> Result<(), AllocError>
-    ensures printed { OnOk result (out.new.items ≡ out.old.items ++ render (value_items (spellings names.now) (option_map view_exp value.now))) }
-{
-    if let Some(value) = value {
-        text(out, b" = ")?;
-        expression(out, names, value)?;
-    }
-    text(out, b";")
-}
-
-/// Appends the helper that throws its argument, where the unit has it.
-pub fn helper(out: &mut Vec<u8>, name: &Option<Units>) -> Result<(), AllocError>
-    requires ascii { IfSome name.now IsAsciiName }
-    ensures printed { OnOk result (out.new.items ≡ out.old.items ++ render (helper_items name.now)) }
+/// Prints the helper that throws its argument, where the unit has it.
+pub fn helper<O: Out>(out: &mut O, name: &Option<Units>)
+    requires helper { IfSome name.now IsHelperName }
+    ensures prints { O.prints out.old out.new (render (helper_items name.now)) }
 {
     match name {
-        None => Ok(()),
+        None => {}
         Some(name) => {
-            line(out, 1)?;
-            text(
-                out,
-                b"static <T extends java.lang.Throwable> java.lang.RuntimeException ",
-            )?;
-            simple_name(out, name.as_slice())?;
-            text(out, b"(java.lang.Throwable t) throws T {")?;
-            line(out, 2)?;
-            text(out, b"throw (T) t;")?;
-            line(out, 1)?;
-            text(out, b"}")
+            line(out, 1);
+            out.put(b"static <T extends java.lang.Throwable> java.lang.RuntimeException ");
+            ascii(out, name.as_slice());
+            out.put(b"(java.lang.Throwable t) throws T {");
+            line(out, 2);
+            out.put(b"throw (T) t;");
+            line(out, 1);
+            out.put(b"}");
         }
     }
 }

@@ -1,170 +1,176 @@
 //! Methods, constructors and static initialisers, on lines of their own with the line end before them.
 
-ghost use Rattle.std.specs.Prelude.{◌≡◌, ◌∷◌, ◌++◌, All, IfSome, OnOk, option_map, decimal};
+ghost use Rattle.std.specs.Prelude.{◌≡◌, ◌∷◌, ◌++◌, [], false, codes, if◌then◌else◌, IfSome, is_some, option_map, decimal};
+ghost use Rattle.std.specs.List.{AllByRecursion};
 ghost use Rattle.dj_names.specs.Types.{parameters_of, result_of, view_descriptor, view_type, view_types};
 ghost use Rattle.dj_syntax.specs.Items.{render};
-ghost use Rattle.dj_syntax.specs.Trees.{view_body, view_method};
-ghost use Rattle.dj_syntax.specs.UnitText.{body_items, default_items, head_items, method_items, more_parameters, name_items, parameters_items, result_items, type_items};
-ghost use Rattle.dj_print.specs.Printable.{IsAsciiDescriptor, IsAsciiMethod, IsAsciiName, IsAsciiType};
-ghost use Rattle.dj_print.specs.Spelled.{spellings};
+ghost use Rattle.dj_syntax.specs.Trees.{view_body, view_method, view_unit};
+ghost use Rattle.dj_syntax.specs.UnitText.{body_items, class_name, default_items, head_items, is_initialiser, method_items, more_parameters, name_items, parameters_items, result_items, type_items, word};
+ghost use Rattle.dj_syntax.specs.WellFormed.{AreWellFormedStms, HasMethodName, IsMethodDescriptor, IsNamed, IsWellFormedMethod};
+ghost use Rattle.dj_print.specs.Spelled.{IsNamedUnit, spellings};
 
+use crate::out::Out;
 use crate::print::member::modifiers;
-use crate::print::names::{Names, class_list};
-use crate::print::statement::inner_list;
-use crate::print::text::{line, number, simple_name, text};
+use crate::print::names::class_list;
+use crate::print::statement::statements;
+use crate::print::text::{line, number, simple_name};
 use crate::print::types::type_name;
 use dj_names::{Descriptor, JType};
-use dj_syntax::{Body, MethodText, is_constructor, is_initialiser, method_bits};
-use std::alloc::AllocError;
+use dj_syntax::{Body, MethodText, Unit, is_constructor, is_initialiser, method_bits};
 
-/// Appends a method, a constructor or a static initialiser.
-pub fn method(
-    out: &mut Vec<u8>,
-    names: &Names,
-    interface: bool,
-    method: &MethodText,
-) -> Result<(), AllocError>
-    requires own { IsAsciiName names.now.own }
-    requires ascii { IsAsciiMethod (view_method method.now) }
-    ensures printed { OnOk result (out.new.items ≡ out.old.items ++ render (method_items (spellings names.now) interface (view_method method.now))) }
+/// Prints a method, a constructor or a static initialiser.
+pub fn method<O: Out>(out: &mut O, method: &MethodText, interface: bool, unit: &Unit)
+    requires named { IsNamedUnit (view_unit unit.now) }
+    requires well_formed { IsWellFormedMethod interface (is_some unit.now.helper) (class_name (view_unit unit.now)) (view_method method.now) }
+    ensures prints { O.prints out.old out.new (render (method_items (spellings unit.now) interface (view_method method.now))) }
 {
-    line(out, 1)?;
+    line(out, 1);
+    opening(out, method, interface, unit);
+    body(out, &method.body, unit);
+}
+
+// Prints what stands before the body of a method: its head, or `static`.
+fn opening<O: Out>(out: &mut O, method: &MethodText, interface: bool, unit: &Unit)
+    requires named { IsNamedUnit (view_unit unit.now) }
+    requires well_formed { IsWellFormedMethod interface (is_some unit.now.helper) (class_name (view_unit unit.now)) (view_method method.now) }
+    ensures prints { O.prints out.old out.new (render (if is_initialiser method.now.name then word (codes "static") ∷ [] else head_items (spellings unit.now) interface (view_method method.now))) }
+{
     if is_initialiser(&method.name) {
-        text(out, b"static")?;
+        out.put(b"static");
     } else {
-        head(out, names, interface, method)?;
+        head(out, method, interface, unit);
     }
-    body(out, names, &method.body)
 }
 
-// Appends the head of a method, up to its body.
-fn head(
-    out: &mut Vec<u8>,
-    names: &Names,
-    interface: bool,
-    method: &MethodText,
-) -> Result<(), AllocError>
-    requires own { IsAsciiName names.now.own }
-    requires ascii { IsAsciiMethod (view_method method.now) }
-    ensures printed { OnOk result (out.new.items ≡ out.old.items ++ render (head_items (spellings names.now) interface (view_method method.now))) }
+// Prints the head of a method, up to its body.
+fn head<O: Out>(out: &mut O, method: &MethodText, interface: bool, unit: &Unit)
+    requires named { IsNamedUnit (view_unit unit.now) }
+    requires well_formed { IsWellFormedMethod interface (is_some unit.now.helper) (class_name (view_unit unit.now)) (view_method method.now) }
+    requires other { is_initialiser method.now.name ≡ false }
+    ensures prints { O.prints out.old out.new (render (head_items (spellings unit.now) interface (view_method method.now))) }
 {
-    modifiers(out, method.flags & method_bits(interface))?;
-    default_word(out, interface, method)?;
-    result_and_name(out, names, method)?;
-    text(out, b"(")?;
-    parameters(out, names, &method.descriptor)?;
-    text(out, b")")?;
-    class_list(out, names, b"throws", method.thrown.as_slice())
+    modifiers(out, method.flags & method_bits(interface));
+    default_word(out, method, interface);
+    result_and_name(out, method, unit);
+    out.put(b"(");
+    parameters(out, &method.descriptor, unit);
+    out.put(b")");
+    class_list(out, b"throws", method.thrown.as_slice(), unit);
 }
 
-// Appends `default` where a method of an interface has a body and isn't static.
-fn default_word(out: &mut Vec<u8>, interface: bool, method: &MethodText) -> Result<(), AllocError>
-    ensures printed { OnOk result (out.new.items ≡ out.old.items ++ render (default_items interface (view_method method.now))) }
+// Prints `default` where a method of an interface has a body and isn't static.
+fn default_word<O: Out>(out: &mut O, method: &MethodText, interface: bool)
+    ensures prints { O.prints out.old out.new (render (default_items interface (view_method method.now))) }
 {
     if interface && method.body.is_some() && method.flags & 0x0008 == 0 {
-        text(out, b"default ")?;
+        out.put(b"default ");
     }
-    Ok(())
 }
 
-// Appends a method's result and name; a constructor has its class's simple name alone.
-fn result_and_name(out: &mut Vec<u8>, names: &Names, method: &MethodText) -> Result<(), AllocError>
-    requires own { IsAsciiName names.now.own }
-    requires ascii { IsAsciiMethod (view_method method.now) }
-    ensures printed { OnOk result (out.new.items ≡ out.old.items ++ render (name_items (spellings names.now) (view_method method.now))) }
+// Prints a method's result and name; a constructor has its class's simple name alone.
+fn result_and_name<O: Out>(out: &mut O, method: &MethodText, unit: &Unit)
+    requires named { IsNamedUnit (view_unit unit.now) }
+    requires name { HasMethodName (view_method method.now) }
+    requires other { is_initialiser method.now.name ≡ false }
+    requires descriptor { IsMethodDescriptor (view_descriptor method.now.descriptor) }
+    ensures prints { O.prints out.old out.new (render (name_items (spellings unit.now) (view_method method.now))) }
 {
     if is_constructor(&method.name) {
-        return simple_name(out, names.own.as_slice());
+        simple_name(out, &unit.name);
+    } else {
+        result_type(out, &method.descriptor, unit);
+        out.put(b" ");
+        simple_name(out, &method.name);
     }
-    result_type(out, names, &method.descriptor)?;
-    text(out, b" ")?;
-    simple_name(out, method.name.as_slice())
 }
 
-// Appends a method's result: a type, or `void`.
-fn result_type(out: &mut Vec<u8>, names: &Names, descriptor: &Descriptor) -> Result<(), AllocError>
-    requires ascii { IsAsciiDescriptor (view_descriptor descriptor.now) }
-    ensures printed { OnOk result (out.new.items ≡ out.old.items ++ render (result_items (spellings names.now) (result_of (view_descriptor descriptor.now)))) }
+// Prints a method's result: a type, or `void`.
+fn result_type<O: Out>(out: &mut O, descriptor: &Descriptor, unit: &Unit)
+    requires method { IsMethodDescriptor (view_descriptor descriptor.now) }
+    ensures prints { O.prints out.old out.new (render (result_items (spellings unit.now) (result_of (view_descriptor descriptor.now)))) }
 {
     match descriptor {
-        Descriptor::Field(kind) => type_name(out, names, kind),
+        Descriptor::Field(kind) => type_name(out, kind, unit),
         Descriptor::Method {
             parameters: _,
             result,
-        } => type_or_void(out, names, result),
+        } => type_or_void(out, result, unit),
     }
 }
 
-// Appends a type, or `void`.
-fn type_or_void(out: &mut Vec<u8>, names: &Names, kind: &Option<JType>) -> Result<(), AllocError>
-    requires ascii { IfSome (option_map view_type kind.now) IsAsciiType }
-    ensures printed { OnOk result (out.new.items ≡ out.old.items ++ render (result_items (spellings names.now) (option_map view_type kind.now))) }
+// Prints a type, or `void`.
+fn type_or_void<O: Out>(out: &mut O, kind: &Option<JType>, unit: &Unit)
+    requires named { IfSome (option_map view_type kind.now) IsNamed }
+    ensures prints { O.prints out.old out.new (render (result_items (spellings unit.now) (option_map view_type kind.now))) }
 {
     match kind {
-        None => text(out, b"void"),
-        Some(kind) => type_name(out, names, kind),
+        None => out.put(b"void"),
+        Some(kind) => type_name(out, kind, unit),
     }
 }
 
-// Appends the parameters of a method, `p0` and so on.
-fn parameters(out: &mut Vec<u8>, names: &Names, descriptor: &Descriptor) -> Result<(), AllocError>
-    requires ascii { IsAsciiDescriptor (view_descriptor descriptor.now) }
-    ensures printed { OnOk result (out.new.items ≡ out.old.items ++ render (parameters_items (spellings names.now) (parameters_of (view_descriptor descriptor.now)))) }
+// Prints the parameters of a method, `p0` and so on.
+fn parameters<O: Out>(out: &mut O, descriptor: &Descriptor, unit: &Unit)
+    requires method { IsMethodDescriptor (view_descriptor descriptor.now) }
+    ensures prints { O.prints out.old out.new (render (parameters_items (spellings unit.now) (parameters_of (view_descriptor descriptor.now)))) }
 {
     match descriptor {
-        Descriptor::Field(_) => Ok(()),
+        Descriptor::Field(_) => {}
         Descriptor::Method {
             parameters,
             result: _,
-        } => all_parameters(out, names, parameters.as_slice()),
+        } => all_parameters(out, parameters.as_slice(), unit),
     }
 }
 
-// Appends parameters of these types, with commas between them.
-fn all_parameters(out: &mut Vec<u8>, names: &Names, kinds: &[JType]) -> Result<(), AllocError>
-    requires ascii { All IsAsciiType (view_types kinds.now) }
-    ensures printed { OnOk result (out.new.items ≡ out.old.items ++ render (parameters_items (spellings names.now) (view_types kinds.now))) }
+// Prints parameters of these types, with commas between them.
+fn all_parameters<O: Out>(out: &mut O, kinds: &[JType], unit: &Unit)
+    requires named { AllByRecursion IsNamed (view_types kinds.now) }
+    ensures prints { O.prints out.old out.new (render (parameters_items (spellings unit.now) (view_types kinds.now))) }
 {
-    if let [first, rest @ ..] = kinds {
-        parameter(out, names, first, 0)?;
-        more_parameters(out, names, rest)?;
+    match kinds {
+        [] => {}
+        [first, rest @ ..] => {
+            parameter(out, first, 0, unit);
+            more_parameters(out, rest, unit);
+        }
     }
-    Ok(())
 }
 
-// Appends parameters from `p1` on, each with the comma before it.
-fn more_parameters(out: &mut Vec<u8>, names: &Names, kinds: &[JType]) -> Result<(), AllocError>
-    requires ascii { All IsAsciiType (view_types kinds.now) }
-    ensures printed { OnOk result (out.new.items ≡ out.old.items ++ render (more_parameters (spellings names.now) 1 (view_types kinds.now))) }
+// Prints parameters from `p1` on, each with the comma before it.
+fn more_parameters<O: Out>(out: &mut O, kinds: &[JType], unit: &Unit)
+    requires named { AllByRecursion IsNamed (view_types kinds.now) }
+    ensures prints { O.prints out.old out.new (render (more_parameters (spellings unit.now) 1 (view_types kinds.now))) }
 {
     for (index, kind) in kinds.iter().enumerate() {
-        text(out, b", ")?;
-        parameter(out, names, kind, index + 1)?;
+        out.put(b", ");
+        parameter(out, kind, index + 1, unit);
     }
-    Ok(())
 }
 
-// Appends a parameter: its type, and its name by its number.
-fn parameter(out: &mut Vec<u8>, names: &Names, kind: &JType, index: usize) -> Result<(), AllocError>
-    requires ascii { IsAsciiType (view_type kind.now) }
-    ensures printed { OnOk result (out.new.items ≡ out.old.items ++ (render (type_items (spellings names.now) (view_type kind.now)) ++ 32 ∷ 112 ∷ decimal index)) }
+// Prints a parameter: its type, and its name by its number.
+fn parameter<O: Out>(out: &mut O, kind: &JType, index: usize, unit: &Unit)
+    requires named { IsNamed (view_type kind.now) }
+    ensures prints { O.prints out.old out.new (render (type_items (spellings unit.now) (view_type kind.now)) ++ 32 ∷ 112 ∷ decimal index) }
 {
-    type_name(out, names, kind)?;
-    text(out, b" p")?;
-    number(out, index)
+    type_name(out, kind, unit);
+    out.put(b" p");
+    number(out, index as u64);
 }
 
-// Appends a body in braces, or the semicolon of a method without one.
-fn body(out: &mut Vec<u8>, names: &Names, body: &Option<Body>) -> Result<(), AllocError>
-    ensures printed { OnOk result (out.new.items ≡ out.old.items ++ render (body_items (spellings names.now) (option_map view_body body.now))) }
+// Prints a body in braces, or the semicolon of a method without one.
+fn body<O: Out>(out: &mut O, body: &Option<Body>, unit: &Unit)
+    requires named { IsNamedUnit (view_unit unit.now) }
+    requires well_formed { IfSome (option_map view_body body.now) (λ body. AreWellFormedStms (is_some unit.now.helper) body.statements) }
+    ensures prints { O.prints out.old out.new (render (body_items (spellings unit.now) (option_map view_body body.now))) }
 {
     match body {
-        None => text(out, b";"),
+        None => out.put(b";"),
         Some(body) => {
-            text(out, b" {")?;
-            inner_list(out, names, 1, body.statements.as_slice())?;
-            line(out, 1)?;
-            text(out, b"}")
+            out.put(b" {");
+            statements(out, body.statements.as_slice(), 2, unit);
+            line(out, 1);
+            out.put(b"}");
         }
     }
 }

@@ -1,35 +1,35 @@
 //! Types.
 
-ghost use Rattle.std.specs.Prelude.{◌≡◌, ◌++◌, OnOk};
+ghost use Rattle.std.specs.Prelude.{◌≡◌};
 ghost use Rattle.dj_names.specs.Types.{view_type};
 ghost use Rattle.dj_syntax.specs.Items.{render};
 ghost use Rattle.dj_syntax.specs.UnitText.{type_items};
-ghost use Rattle.dj_print.specs.Printable.{IsAsciiType};
+ghost use Rattle.dj_syntax.specs.WellFormed.{IsNamed};
 ghost use Rattle.dj_print.specs.Spelled.{spellings};
 
-use crate::print::names::{Names, class_name};
-use crate::print::text::text;
+use crate::out::Out;
+use crate::print::names::class_name;
 use dj_names::JType;
-use std::alloc::AllocError;
+use dj_syntax::Unit;
 
-/// Appends a type.
-pub fn type_name(out: &mut Vec<u8>, names: &Names, kind: &JType) -> Result<(), AllocError>
-    requires ascii { IsAsciiType (view_type kind.now) }
-    ensures printed { OnOk result (out.new.items ≡ out.old.items ++ render (type_items (spellings names.now) (view_type kind.now))) }
+/// Prints a type.
+pub fn type_name<O: Out>(out: &mut O, kind: &JType, unit: &Unit)
+    requires named { IsNamed (view_type kind.now) }
+    ensures prints { O.prints out.old out.new (render (type_items (spellings unit.now) (view_type kind.now))) }
 {
     match kind {
-        JType::Boolean => text(out, b"boolean"),
-        JType::Byte => text(out, b"byte"),
-        JType::Char => text(out, b"char"),
-        JType::Short => text(out, b"short"),
-        JType::Int => text(out, b"int"),
-        JType::Long => text(out, b"long"),
-        JType::Float => text(out, b"float"),
-        JType::Double => text(out, b"double"),
-        JType::Class(name) => class_name(out, names, name),
+        JType::Boolean => out.put(b"boolean"),
+        JType::Byte => out.put(b"byte"),
+        JType::Char => out.put(b"char"),
+        JType::Short => out.put(b"short"),
+        JType::Int => out.put(b"int"),
+        JType::Long => out.put(b"long"),
+        JType::Float => out.put(b"float"),
+        JType::Double => out.put(b"double"),
+        JType::Class(name) => class_name(out, name, unit),
         JType::Array(element) => {
-            type_name(out, names, element.get())?;
-            text(out, b"[]")
+            type_name(out, element.get(), unit);
+            out.put(b"[]");
         }
     }
 }

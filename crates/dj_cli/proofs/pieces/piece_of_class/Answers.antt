@@ -2,7 +2,6 @@ use Rattle.std.proofs.Common.{map}
 use Rattle.dj_class.specs.Views.{view_class}
 use Rattle.dj_syntax.specs.Trees as trees
 use Rattle.dj_syntax.specs.Trees.{view_unit}
-use Rattle.dj_print.proofs.WellFormedIsAscii.{ascii_from_well_formed}
 use Rattle.dj_cli.specs.Methods.{lines_bytes}
 use Rattle.dj_cli.proofs.ClassTextLemmas.{ascii_name}
 use Rattle.dj_cli.proofs.PiecesLemmas.{well_formed, prints_class}
@@ -14,13 +13,13 @@ judge_methods-requires c = record { flags = λ i method inside. (c.requires.part
 pub piece_of_unit-requires-clause-ascii : goal.piece_of_unit-requires-clause-ascii
 piece_of_unit-requires-clause-ascii c = ascii_name c.args.class.now.this_class c.requires.part.name
 
-pub piece_of_unit-requires-clause-printable : goal.piece_of_unit-requires-clause-printable
-piece_of_unit-requires-clause-printable c =
+pub piece_of_unit-requires-clause-well_formed : goal.piece_of_unit-requires-clause-well_formed
+piece_of_unit-requires-clause-well_formed c =
     let class = view_class c.args.class.now in
     let unit = view_unit c.in_ok-unit.unit in
     let texts = map trees.view_method c.in_ok-texts.field-0.texts in
     let lines = lines_bytes class.this_class c.in_ok-texts.field-0.lines.items in
-    ascii_from_well_formed unit (well_formed class texts lines unit c.requires.part c.in_ok-texts.ensures.judged c.in_ok-unit.ensures.text c.in_ok-unit.ensures.simple)
+    well_formed class texts lines unit c.requires.part c.in_ok-texts.ensures.judged c.in_ok-unit.ensures.text c.in_ok-unit.ensures.simple
 
 pub returns : goal.returns
 returns c =

@@ -1,6 +1,8 @@
 use Rattle.std.proofs.Common.{rules, append_assoc}
-use Rattle.std.proofs.lemmas.Result.{IfOk-equal}
+use Rattle.std.proofs.lemmas.Grind.{flat_map-append}
+use Rattle.dj_print.proofs.Composing.{two}
 use Rattle.dj_print.proofs.print.superclass.Goals as goal
 
-pub returns-in_ok-text-in-Some : goal.returns-in_ok-text-in-Some
-returns-in_ok-text-in-Some c = rw c.in-Some.is (search (rules, IfOk-equal, append_assoc))
+pub returns-in-Some : goal.returns-in-Some
+returns-in-Some g c =
+    record { prints = two g.O.Out.prints g.met.O.Out.then c.put.ensures.prints c.class_name.ensures.prints (rw c.in-Some.is (search (rules, append_assoc, flat_map-append))) }

@@ -1,10 +1,16 @@
-use Rattle.std.proofs.Common.{◌++◌, ap, ◌∙◌, rules}
-use Rattle.std.proofs.lemmas.Result.{IfOk-equal}
-use Rattle.dj_print.proofs.PrintLemmas.{helper_text}
+use Rattle.std.proofs.Common.{refl, rules}
+use Rattle.dj_syntax.specs.WellFormed.{IsHelperName}
+use Rattle.dj_print.proofs.NamesAreAscii.{ascii_helper}
+use Rattle.dj_print.proofs.Composing.{eight}
 use Rattle.dj_print.proofs.print.member.helper.Goals as goal
 
-pub returns-in_ok-line-in-Some-3 : goal.returns-in_ok-line-in-Some-3
-returns-in_ok-line-in-Some-3 c =
-    let named = c.in_ok-simple_name-in-Some.ensures.printed ∙ ap (λ units. c.text.new.out.items ++ units) c.as_slice.ensures.units in
-    let whole = helper_text c.in-Some.name c.args.out.now.items c.line.new.out.items c.text.new.out.items c.simple_name.new.out.items c.text-in-Some.new.out.items c.line-in-Some.new.out.items c.text-in-Some-2.new.out.items c.line-in-Some-2.new.out.items c.in_ok-line-in-Some.ensures.printed c.in_ok-text-in-Some.ensures.printed named c.in_ok-text-in-Some-2.ensures.printed c.in_ok-line-in-Some-2.ensures.printed c.in_ok-text-in-Some-3.ensures.printed c.in_ok-line-in-Some-3.ensures.printed in
-    rw c.in-Some.is (search (rules, IfOk-equal, whole))
+pub returns-in-Some : goal.returns-in-Some
+returns-in-Some g c =
+    record { prints = eight g.O.Out.prints g.met.O.Out.then c.line.ensures.prints c.put.ensures.prints c.ascii.ensures.prints c.put-in-Some.ensures.prints c.line-in-Some.ensures.prints c.put-in-Some-2.ensures.prints c.line-in-Some-2.ensures.prints c.put-in-Some-3.ensures.prints (rw (c.in-Some.is, c.as_slice.ensures.units) refl) }
+
+pub ascii-requires : goal.ascii-requires
+ascii-requires g c =
+    let h : IsHelperName c.in-Some.name = search rules in let a = ascii_helper c.in-Some.name h in record { ascii = search rules }
+
+pub returns-in-None : goal.returns-in-None
+returns-in-None g c = record { prints = rw c.in-None.is (g.met.O.Out.nothing _) }

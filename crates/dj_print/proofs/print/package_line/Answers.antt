@@ -1,0 +1,11 @@
+use Rattle.std.proofs.Common.{rules, append_assoc}
+use Rattle.std.proofs.lemmas.Grind.{flat_map-append}
+use Rattle.dj_print.proofs.Composing.{four}
+use Rattle.dj_print.proofs.print.package_line.Goals as goal
+
+pub returns-in-Some : goal.returns-in-Some
+returns-in-Some g c =
+    record { prints = four g.O.Out.prints g.met.O.Out.then c.put.ensures.prints c.full_name.ensures.prints c.put-in-Some.ensures.prints c.line.ensures.prints (rw c.in-Some.is (search (rules, append_assoc, flat_map-append))) }
+
+pub returns-in-None : goal.returns-in-None
+returns-in-None g c = record { prints = rw c.in-None.is (g.met.O.Out.nothing _) }

@@ -1,0 +1,8 @@
+use Rattle.std.proofs.Common.{rules, append_assoc}
+use Rattle.std.proofs.lemmas.Grind.{flat_map-append}
+use Rattle.dj_print.proofs.Composing.{six}
+use Rattle.dj_print.proofs.print.statement.parts.for_head.Goals as goal
+
+pub returns : goal.returns
+returns g c =
+    record { prints = six g.O.Out.prints g.met.O.Out.then c.put.ensures.prints c.expression.ensures.prints c.put-2.ensures.prints c.assigned.ensures.prints c.expression-2.ensures.prints c.put-3.ensures.prints (search (rules, append_assoc, flat_map-append)) }

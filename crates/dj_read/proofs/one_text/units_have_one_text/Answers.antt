@@ -1,5 +1,0 @@
-use Rattle.dj_read.proofs.OneText.{units_have_one_text}
-use Rattle.dj_read.proofs.one_text.units_have_one_text.Goals as goal
-
-pub returns : goal.returns
-returns c = record { one_text = units_have_one_text }

@@ -1,0 +1,5 @@
+pub mod WordsLemmas
+pub mod NamesLemmas
+pub mod TypesLemmas
+pub mod TypeViews
+pub mod Runs
