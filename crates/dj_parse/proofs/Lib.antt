@@ -2,6 +2,7 @@ pub mod WordsLemmas
 pub mod NamesLemmas
 pub mod TypesLemmas
 pub mod TypeViews
+pub mod BlockViews
 pub mod MembersLemmas
 pub mod Runs
 pub mod ValuesAreRead

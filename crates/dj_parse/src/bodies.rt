@@ -1,7 +1,7 @@
 //! Statements read from words (JLS 14).
 
-ghost use Rattle.std.specs.Prelude.{◌≡◌, [], map, IfOk};
-ghost use Rattle.dj_syntax.specs.Trees.{view_stm};
+ghost use Rattle.std.specs.Prelude.{◌≡◌, [], ◌∷◌, ◌++◌, map, IfOk};
+ghost use Rattle.dj_syntax.specs.Trees.{Block, stms_of, view_stm};
 ghost use Rattle.dj_parse.specs.Bodies.{no_blocks, between, ends_body, close_block, read_between, read_return, read_more, read_statements};
 ghost use Rattle.dj_parse.specs.Readings.{view_reading, view_outer, view_blocks};
 
@@ -110,16 +110,21 @@ fn close_block(mut outer: Items<Items<Stm>>, statements: Items<Stm>) -> Result<B
 {
     let statements = match outer.pop() {
         None => statements,
-        Some(mut before) => {
-            before.push(Stm::Block(statements))?;
-            before
-        }
+        Some(before) => with_block(before, statements)?,
     };
     Ok(Blocks {
         outer,
         statements,
         value: None,
     })
+}
+
+/// Statements with a block behind them.
+fn with_block(mut before: Items<Stm>, inside: Items<Stm>) -> Result<Items<Stm>, AllocError>
+    ensures added { IfOk result (λ list. map view_stm list ≡ map view_stm before ++ Block (stms_of (map view_stm inside)) ∷ []) }
+{
+    before.push(Stm::Block(inside))?;
+    Ok(before)
 }
 
 /// A word more of a `return`.
