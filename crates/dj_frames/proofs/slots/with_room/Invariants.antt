@@ -1,4 +1,4 @@
-use Rattle.std.proofs.Common.{◌≡◌, ◌<◌, ◌≤◌, ◌^◌, ℕ}
+use Rattle.std.proofs.Common.{◌≡◌, ◌<◌, ◌^◌, ℕ}
 use Rattle.dj_frames.specs.SlotTree.{tag_in}
 use Rattle.dj_frames.proofs.slots.with_room.Given as goal
 

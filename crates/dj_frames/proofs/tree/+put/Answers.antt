@@ -1,7 +1,6 @@
-use Rattle.std.proofs.Common.{◌≡◌, ℕ, ◌-◌, List, length, take, drop, refl, ap, ◌∙◌, arith, length-drop}
+use Rattle.std.proofs.Common.{◌≡◌, ℕ, ◌-◌, length, take, drop, refl, ap, arith, length-drop}
 use Rattle.std.proofs.lemmas.List.{take_all}
 use Rattle.std.proofs.lemmas.Grind.{common_steps}
-use Rattle.dj_frames.specs.declared.tag.Tag.{Tag}
 use Rattle.dj_frames.specs.declared.tree.Tree.TheVariants.{Fork}
 use Rattle.dj_frames.proofs.SlotTags.{root_over, put_upper, put_lower, put_both}
 use Rattle.dj_frames.proofs.tree.+put.Goals as goal
