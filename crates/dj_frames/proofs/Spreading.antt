@@ -1,14 +1,15 @@
 -- Values of locals and the slots that they take.
-use Rattle.std.proofs.Common.{◌≡◌, ℕ, zero, suc, ◌+◌, ◌-◌, ◌<◌, ◌≤◌, Bool, true, false, not, cond, eqb, ltb, ◌||◌, List, [], ◌∷◌, ◌++◌, length, take, Option, Some, None, is_some, refl, sym, ap, ◌∙◌, arith, length-append}
-use Rattle.std.specs.List.{flat_map, prefix_len, position, list_any}
+use Rattle.std.proofs.Common.{◌≡◌, ℕ, zero, suc, ◌+◌, ◌-◌, ◌<◌, ◌≤◌, Bool, true, false, not, cond, eqb, ltb, ◌||◌, List, [], ◌∷◌, ◌++◌, length, get_or, take, drop, Option, Some, None, is_some, refl, sym, ap, ◌∙◌, arith, length-append}
+use Rattle.std.specs.List.{flat_map, prefix_len, position, position_or_len, list_any}
 use Rattle.std.proofs.lemmas.Bool.{lt-ltb}
 use Rattle.std.proofs.lemmas.Bool.Decides.{nat_tests}
-use Rattle.std.proofs.lemmas.List.{take-map, take_at, length-map, append-nil, map-append}
+use Rattle.std.proofs.lemmas.List.{take-map, take_at, take_all, take_more, take-append-drop, get_or_append_left, length-take-le, length-map, append-nil, map-append}
 use Rattle.std.proofs.lemmas.List.Folds.{prefix_len-append}
-use Rattle.std.proofs.lemmas.List.Sums.{prefix_len-le-length}
+use Rattle.std.proofs.lemmas.List.Sums.{prefix_len-le-length, position_or_len_is}
+use Rattle.std.proofs.lemmas.List.Quantifiers.{position-Some}
 use Rattle.std.proofs.lemmas.Grind.{flat_map-append}
 use Rattle.dj_frames.specs.declared.tag.Tag as declared
-use Rattle.dj_frames.specs.Frames.{Tag, Frame, view_tag, view_tags, slots_of, is_unborn_this, frame_of}
+use Rattle.dj_frames.specs.Frames.{Tag, Top, Frame, view_tag, view_tags, slots_of, is_unborn_this, frame_of}
 use Rattle.dj_frames.specs.Locals.{IsFront}
 
 -- ---- the first that passes
@@ -21,7 +22,7 @@ some_within : (a n : ℕ) → a < n → cond (ltb a n) (Some a) None ≡ Some a
 some_within a n lt = rw (lt-ltb a n lt) refl
 
 -- behind those that fail, one that passes
-pub position_pushed : {X : Type 0} (p : X → Bool) (xs : List X) (x : X) → position p xs ≡ None → p x ≡ true → position p (xs ++ x ∷ []) ≡ Some (length xs)
+position_pushed : {X : Type 0} (p : X → Bool) (xs : List X) (x : X) → position p xs ≡ None → p x ≡ true → position p (xs ++ x ∷ []) ≡ Some (length xs)
 position_pushed p xs x none passes =
     let P = prefix_len (λ y. not (p y)) in
     let all : P xs ≡ length xs = none_at_end (P xs) (length xs) (ltb (P xs) (length xs)) refl none (prefix_len-le-length (λ y. not (p y)) xs) in
@@ -30,6 +31,51 @@ position_pushed p xs x none passes =
     let here : P (xs ++ x ∷ []) ≡ length xs = prefix_len-append (λ y. not (p y)) xs (x ∷ []) ∙ rw (test, alone) (omega arith) in
     let long = length-append xs (x ∷ []) in
     rw here (some_within (length xs) (length (xs ++ x ∷ [])) (omega arith))
+
+-- behind those that fail, one that fails
+position_passed : {X : Type 0} (p : X → Bool) (xs : List X) (x : X) → position p xs ≡ None → p x ≡ false → position p (xs ++ x ∷ []) ≡ None
+position_passed p xs x none fails =
+    let P = prefix_len (λ y. not (p y)) in
+    let all : P xs ≡ length xs = none_at_end (P xs) (length xs) (ltb (P xs) (length xs)) refl none (prefix_len-le-length (λ y. not (p y)) xs) in
+    let alone : P (x ∷ []) ≡ 1 = rw fails refl in
+    let test : eqb (P xs) (length xs) ≡ true = grind (arith, nat_tests) in
+    let here : P (xs ++ x ∷ []) ≡ length xs + 1 = prefix_len-append (λ y. not (p y)) xs (x ∷ []) ∙ rw (test, alone) refl in
+    let long = length-append xs (x ∷ []) in
+    let past : ltb (length xs + 1) (length (xs ++ x ∷ [])) ≡ false = grind (arith, nat_tests) in
+    rw (here, past) refl
+
+-- the first one that passes, whatever stands behind
+position_kept : {X : Type 0} (p : X → Bool) (xs ys : List X) (i : ℕ) (d : X) → position p xs ≡ Some i → position p (xs ++ ys) ≡ Some i
+position_kept p xs ys i d is =
+    let facts = position-Some p xs i d is in
+    let long = length-append xs ys in
+    let here : position_or_len p (xs ++ ys) ≡ i = position_or_len_is p (xs ++ ys) i d (omega arith) (λ k lt. ap p (get_or_append_left xs ys d k (omega arith)) ∙ facts.2 k lt) (λ within. ap p (get_or_append_left xs ys d i facts.0) ∙ facts.1) in
+    rw here (some_within i (length (xs ++ ys)) (omega arith))
+
+-- ---- the first value that is UnbornThis
+
+module _ (values : List declared.Tag) where
+  -- it is known among the first ones
+  pub unborn_kept : (known at : ℕ) → position is_unborn_this (view_tags (take known values)) ≡ Some at → Some at ≡ position is_unborn_this (view_tags values)
+  unborn_kept known at is =
+      sym (ap (λ (t : List declared.Tag). position is_unborn_this (view_tags t)) (sym (take-append-drop known values)) ∙ ap (position is_unborn_this) (map-append view_tag (take known values) (drop known values))
+      ∙ position_kept is_unborn_this (view_tags (take known values)) (view_tags (drop known values)) at Top is)
+
+  next : (place : ℕ) (value : declared.Tag) → place < length values → value ≡ get_or values place value → view_tags (take (place + 1) values) ≡ view_tags (take place values) ++ view_tag value ∷ []
+  next place value within is = ap view_tags (take_more values place value within ∙ ap (λ (v : declared.Tag). take place values ++ v ∷ []) (sym is)) ∙ map-append view_tag (take place values) (value ∷ [])
+
+  pub unborn_passed : (place : ℕ) (value : declared.Tag) → place < length values → value ≡ get_or values place value → position is_unborn_this (view_tags (take place values)) ≡ None → is_unborn_this (view_tag value) ≡ false
+      → position is_unborn_this (view_tags (take (place + 1) values)) ≡ None
+  unborn_passed place value within is none fails = ap (position is_unborn_this) (next place value within is) ∙ position_passed is_unborn_this (view_tags (take place values)) (view_tag value) none fails
+
+  pub unborn_here : (place : ℕ) (value : declared.Tag) → place < length values → value ≡ get_or values place value → position is_unborn_this (view_tags (take place values)) ≡ None → is_unborn_this (view_tag value) ≡ true
+      → Some place ≡ position is_unborn_this (view_tags values)
+  unborn_here place value within is none passes =
+      let long : length (view_tags (take place values)) ≡ place = length-map (take place values) view_tag ∙ length-take-le place values (omega arith) in
+      unborn_kept (place + 1) place (ap (position is_unborn_this) (next place value within is) ∙ position_pushed is_unborn_this (view_tags (take place values)) (view_tag value) none passes ∙ ap Some long)
+
+  pub unborn_nowhere : (n : ℕ) → length values ≤ n → position is_unborn_this (view_tags (take n values)) ≡ None → None ≡ position is_unborn_this (view_tags values)
+  unborn_nowhere n le none = sym (ap (λ (t : List declared.Tag). position is_unborn_this (view_tags t)) (sym (take_all n values le)) ∙ none)
 
 is_some_cond : {X : Type 0} (b : Bool) (x : X) → is_some (cond b (Some x) None) ≡ b
 is_some_cond true x = refl

@@ -9,7 +9,7 @@ use crate::frame::Frame;
 use crate::locals::Locals;
 use crate::tag::Tag;
 use dj_class::Method;
-use dj_names::{ClassName, Descriptor, JType, is_word};
+use dj_names::{ClassName, Descriptor, Items, JType, is_word};
 use std::alloc::{AllocError, Global};
 
 const STATIC: u16 = 0x8;
@@ -32,44 +32,53 @@ fn this_of(alloc: Global, class: &ClassName, method: &Method) -> Result<Tag, All
     }
 }
 
-/// The local of `this`, where the method has one.
-fn receiver(alloc: Global, class: &ClassName, method: &Method) -> Result<Locals, AllocError>
-    ensures receiver { IfOk result (λ locals. view_tags locals ≡ receiver_of class.now (view_method method.now)) }
+/// The value of `this`, where the method has one.
+fn receiver(alloc: Global, class: &ClassName, method: &Method) -> Result<Items<Tag>, AllocError>
+    ensures receiver { IfOk result (λ values. view_tags values ≡ receiver_of class.now (view_method method.now)) }
 {
-    let locals = Locals::new(alloc);
+    let mut values = Items::new(alloc);
     if method.flags & STATIC == 0 {
-        let this = this_of(alloc, class, method)?;
-        let locals = locals.with(alloc, this)?;
-        Ok(locals)
-    } else {
-        Ok(locals)
+        values.push(this_of(alloc, class, method)?)?;
     }
+    Ok(values)
 }
 
-/// These locals, and those of parameters of these types behind them.
-fn with_parameters(alloc: Global, locals: Locals, kinds: &[JType]) -> Result<Locals, AllocError>
-    ensures more { IfOk result (λ now. view_tags now ≡ view_tags locals ++ map tag_of (view_types kinds.now)) }
+/// These values, and those of parameters of these types behind them.
+fn with_parameters(
+    alloc: Global,
+    values: Items<Tag>,
+    kinds: &[JType],
+) -> Result<Items<Tag>, AllocError>
+    ensures more { IfOk result (λ now. view_tags now ≡ view_tags values ++ map tag_of (view_types kinds.now)) }
 {
-    let mut locals = locals;
+    let mut values = values;
     for kind in kinds {
-        let tag = Tag::of_type(alloc, kind)?;
-        locals = locals.with(alloc, tag)?;
+        values.push(Tag::of_type(alloc, kind)?)?;
     }
-    Ok(locals)
+    Ok(values)
 }
 
-/// What the locals hold as a method of a class begins.
+/// The values that the locals hold as a method of a class begins.
+fn entry_values(alloc: Global, class: &ClassName, method: &Method) -> Result<Items<Tag>, AllocError>
+    ensures entry { IfOk result (λ values. view_tags values ≡ entry_values class.now (view_method method.now)) }
+{
+    let values = receiver(alloc, class, method)?;
+    match &method.descriptor {
+        Descriptor::Method { parameters, .. } => {
+            let values = with_parameters(alloc, values, parameters.as_slice())?;
+            Ok(values)
+        }
+        Descriptor::Field(_) => Ok(values),
+    }
+}
+
+/// The locals as a method of a class begins.
 pub fn entry_locals(alloc: Global, class: &ClassName, method: &Method) -> Result<Locals, AllocError>
     ensures entry { IfOk result (λ locals. view_tags locals ≡ entry_values class.now (view_method method.now)) }
 {
-    let locals = receiver(alloc, class, method)?;
-    match &method.descriptor {
-        Descriptor::Method { parameters, .. } => {
-            let locals = with_parameters(alloc, locals, parameters.as_slice())?;
-            Ok(locals)
-        }
-        Descriptor::Field(_) => Ok(locals),
-    }
+    let values = entry_values(alloc, class, method)?;
+    let locals = Locals::from_values(alloc, values)?;
+    Ok(locals)
 }
 
 /// The frame that a method of a class begins with.

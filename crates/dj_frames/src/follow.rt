@@ -40,11 +40,11 @@ fn changed(
         Change::Keeps => Ok(Some(locals)),
         Change::Chops(count) => Ok(locals.without(count)),
         Change::Appends => {
-            let locals = locals.with_all(alloc, written.as_slice())?;
+            let locals = locals.with_all(alloc, written)?;
             Ok(Some(locals))
         }
         Change::Replaces => {
-            let locals = Locals::new(alloc).with_all(alloc, written.as_slice())?;
+            let locals = Locals::from_values(alloc, written)?;
             Ok(Some(locals))
         }
     }

@@ -1,6 +1,6 @@
 //! The locals of a method as they change from frame to frame (JVMS 4.7.4).
 
-ghost use Rattle.std.specs.Prelude.{◌≡◌, ◌<◌, ◌≤◌, ◌-◌, ◌++◌, ◌∷◌, [], length, take, flat_map, position, option_map, IfOk, OnOk, MatchOption, List};
+ghost use Rattle.std.specs.Prelude.{◌≡◌, ◌<◌, ◌≤◌, ◌-◌, ◌++◌, ◌∷◌, [], length, take, flat_map, position, option_map, IfOk, OnOk, IsTrue, MatchOption, List};
 ghost use Rattle.dj_frames.specs.Frames.{view_tag, view_tags, view_frame, slots_of, is_unborn_this, frame_of};
 ghost use Rattle.dj_frames.specs.declared.tag.Tag as spec_tag;
 ghost use Rattle.dj_frames.specs.Locals.{IsFront};
@@ -39,30 +39,67 @@ impl Model for Locals {
 }
 
 /// Puts a value behind others, over the slots that it takes.
-fn push_value(alloc: Global, slots: &mut Slots, value: &Tag) -> Result<(), AllocError>
+fn push_value(alloc: Global, slots: &mut Items<Tag>, value: &Tag) -> Result<(), AllocError>
     ensures ok { OnOk result (view_tags slots.new ≡ view_tags slots.old ++ slots_of (view_tag value.now)) }
 {
-    slots.push(alloc, value.copy(alloc)?)?;
+    slots.push(value.copy(alloc)?)?;
     if value.words() == 2 {
-        slots.push(alloc, Tag::Top)?;
+        slots.push(Tag::Top)?;
     }
     Ok(())
 }
 
-/// The place of the first UnbornThis, where this value comes behind so many others.
-fn unborn_behind(unborn: Option<usize>, count: usize, value: &Tag) -> Option<usize>
-    ensures first { (values : List spec_tag.Tag) → unborn ≡ position is_unborn_this (view_tags values) → count ≡ length values → result ≡ position is_unborn_this (view_tags (values ++ value.now ∷ [])) }
+/// The slots that values take.
+fn spread(alloc: Global, values: &[Tag]) -> Result<Items<Tag>, AllocError>
+    ensures spread { IfOk result (λ slots. view_tags slots ≡ flat_map slots_of (view_tags values.now)) }
 {
-    match unborn {
-        Some(at) => Some(at),
-        None => {
-            if value.is_unborn_this() {
-                Some(count)
-            } else {
-                None
-            }
+    let mut slots = Items::new(alloc);
+    for value in values {
+        push_value(alloc, &mut slots, value)?;
+    }
+    Ok(slots)
+}
+
+/// Whether each value takes one slot.
+fn is_narrow(values: &[Tag]) -> bool
+    ensures narrow { IsTrue result → flat_map slots_of (view_tags values.now) ≡ view_tags values.now }
+{
+    for value in values {
+        if value.words() == 2 {
+            return false;
         }
     }
+    true
+}
+
+/// Puts values behind others, over the slots that they take.
+fn push_values(alloc: Global, slots: &mut Slots, values: &[Tag]) -> Result<(), AllocError>
+    ensures ok { OnOk result (view_tags slots.new ≡ view_tags slots.old ++ flat_map slots_of (view_tags values.now)) }
+{
+    if is_narrow(values) {
+        slots.append(alloc, values)?;
+        return Ok(());
+    }
+    let spread = spread(alloc, values)?;
+    slots.append(alloc, spread.as_slice())?;
+    Ok(())
+}
+
+/// The place of the first UnbornThis, by that among so many first values.
+fn first_unborn(values: &[Tag], known: usize, unborn: Option<usize>) -> Option<usize>
+    requires within { known ≤ length values.now }
+    requires known { unborn ≡ position is_unborn_this (view_tags (take known values.now)) }
+    ensures first { result ≡ position is_unborn_this (view_tags values.now) }
+{
+    if let Some(at) = unborn {
+        return Some(at);
+    }
+    for place in known..values.len() {
+        if values[place].is_unborn_this() {
+            return Some(place);
+        }
+    }
+    None
 }
 
 /// The place of the first UnbornThis among so many first values.
@@ -80,36 +117,38 @@ pub fn slots_from(alloc: Global, tags: &[Tag]) -> Result<Slots, AllocError>
     ensures same { IfOk result (λ slots. slots ≡ tags.now) }
 {
     let mut slots = Slots::new();
-    for tag in tags {
-        slots.push(alloc, tag.copy(alloc)?)?;
-    }
+    slots.append(alloc, tags)?;
     Ok(slots)
 }
 
 impl Locals {
-    /// No locals.
-    pub fn new(alloc: Global) -> Locals
-        ensures none { result ≡ [] }
+    /// Locals with these values.
+    pub fn from_values(alloc: Global, values: Items<Tag>) -> Result<Locals, AllocError>
+        ensures same { IfOk result (λ now. now ≡ values) }
     {
-        Locals {
-            values: Items::new(alloc),
-            slots: Slots::new(),
-            unborn: None,
-        }
+        let mut slots = Slots::new();
+        push_values(alloc, &mut slots, values.as_slice())?;
+        let unborn = first_unborn(values.as_slice(), 0, None);
+        Ok(Locals {
+            values,
+            slots,
+            unborn,
+        })
     }
 
-    /// The locals with a value behind them.
-    pub fn with(self, alloc: Global, value: Tag) -> Result<Locals, AllocError>
-        ensures more { IfOk result (λ now. now ≡ self ++ value ∷ []) }
+    /// The locals with these values behind them.
+    pub fn with_all(self, alloc: Global, more: Items<Tag>) -> Result<Locals, AllocError>
+        ensures more { IfOk result (λ now. now ≡ self ++ more) }
     {
         let Locals {
             mut values,
             mut slots,
             unborn,
         } = self;
-        push_value(alloc, &mut slots, &value)?;
-        let unborn = unborn_behind(unborn, values.len(), &value);
-        values.push(value)?;
+        push_values(alloc, &mut slots, more.as_slice())?;
+        let known = values.len();
+        values.append(more)?;
+        let unborn = first_unborn(values.as_slice(), known, unborn);
         Ok(Locals {
             values,
             slots,
@@ -135,17 +174,6 @@ impl Locals {
             slots,
             unborn,
         })
-    }
-
-    /// The locals with these values behind them.
-    pub fn with_all(self, alloc: Global, values: &[Tag]) -> Result<Locals, AllocError>
-        ensures more { IfOk result (λ now. now ≡ self ++ values.now) }
-    {
-        let mut locals = self;
-        for value in values {
-            locals = locals.with(alloc, value.copy(alloc)?)?;
-        }
-        Ok(locals)
     }
 
     /// The locals without so many last values, None where there are fewer.

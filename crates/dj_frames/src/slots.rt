@@ -1,13 +1,14 @@
 //! A persistent list of tags: copies share their parts, and a change takes a path of a tree.
 
-ghost use Rattle.std.specs.Prelude.{◌≡◌, ◌<◌, ◌≤◌, ◌^◌, ◌+◌, ◌++◌, ◌∷◌, [], length, take, slice_get, slice_set, IfOk, OnOk, OnErr, IsTrue, ◌↔◌};
+ghost use Rattle.std.specs.Prelude.{◌≡◌, ◌<◌, ◌≤◌, ◌^◌, ◌+◌, ◌++◌, ◌∷◌, [], ℕ, length, take, slice_get, slice_set, IfOk, OnOk, OnErr, IsTrue, ◌↔◌};
 ghost use Rattle.std.specs.Option.{option_copied};
-ghost use Rattle.dj_frames.specs.SlotTree.{tags};
+ghost use Rattle.dj_frames.specs.SlotTree.{tag_in};
 
 use crate::tag::Tag;
-use crate::tree::{Tree, doubled, get, set, share};
+use crate::tree::{Tree, deeper, get, put, share};
 use std::alloc::{AllocError, Global};
 use std::marker::Model;
+use std::slice;
 
 /// Tags in order, kept in the first slots of a tree.
 #[derive(Drop)]
@@ -18,7 +19,7 @@ pub struct Slots {
 }
 
 impl Model for Slots {
-    ghost use Rattle.std.specs.Prelude.{List, take, ◌≤◌, ◌^◌};
+    ghost use Rattle.std.specs.Prelude.{List, ◌<◌, ◌≤◌, ◌^◌};
     ghost use Rattle.std.specs.Coded.{coded_list};
     ghost use Rattle.dj_frames.specs.declared.tag.Tag as spec;
     ghost use Rattle.dj_frames.specs.contracts.tag.Tag.{the_row};
@@ -27,43 +28,41 @@ impl Model for Slots {
 
     ghost coded = { coded_list the_row.coded };
 
-    ghost use Rattle.dj_frames.specs.SlotTree.{tags};
+    ghost use Rattle.dj_frames.specs.SlotTree.{tag_in, first_tags};
 
-    ghost view = { λ s. take s.count (tags s.depth s.tree) };
+    ghost view = { λ s. first_tags s.count (tag_in s.depth s.tree) };
 
-    ghost invariant = { λ s. (s.depth ≤ 64) × (s.count ≤ 2 ^ s.depth) };
+    ghost invariant = { λ s. (s.depth < 64) × (s.count ≤ 2 ^ s.depth) };
 }
 
-/// Whether each slot of a tree is taken.
-fn is_full(depth: u32, count: usize) -> bool
-    requires small { depth ≤ 64 }
-    requires within { count ≤ 2 ^ depth }
-    ensures full { IsTrue result ↔ (count ≡ 2 ^ depth) }
+/// Whether a tree of a depth has room for so many tags.
+fn has_room(depth: u32, count: usize) -> bool
+    requires small { depth < 64 }
+    ensures room { IsTrue result ↔ (count ≤ 2 ^ depth) }
 {
-    depth < 64 && count == 1usize << depth
+    count <= 1usize << depth
 }
 
-/// The depth of a tree that has room for one more tag, and the tree with that tag.
-fn pushed(
+/// The same tags in a tree that has room for so many, and its depth; an error says that there is no
+/// memory for it, or that no tree is as deep.
+fn with_room(
     alloc: Global,
     tree: &Tree,
     depth: u32,
     count: usize,
-    tag: Tag,
 ) -> Result<(u32, Tree), AllocError>
-    requires small { depth ≤ 64 }
-    requires within { count ≤ 2 ^ depth }
-    ensures small { IfOk result (λ after. after.0 ≤ 64) }
-    ensures within { IfOk result (λ after. count + 1 ≤ 2 ^ after.0) }
-    ensures pushed { IfOk result (λ after. take (count + 1) (tags after.0 after.1) ≡ take count (tags depth tree.now) ++ tag ∷ []) }
+    ensures small { IfOk result (λ after. after.0 < 64) }
+    ensures room { IfOk result (λ after. count ≤ 2 ^ after.0) }
+    ensures same { (slot : ℕ) → slot < 2 ^ depth → IfOk result (λ after. tag_in after.0 after.1 slot ≡ tag_in depth tree.now slot) }
 {
-    if is_full(depth, count) {
-        let tree = doubled(alloc, tree, tag)?;
-        Ok((depth + 1, tree))
-    } else {
-        let tree = set(alloc, tree, depth, count, tag)?;
-        Ok((depth, tree))
+    let mut grown = share(alloc, tree)?;
+    for now in depth..64 {
+        if has_room(now, count) {
+            return Ok((now, grown));
+        }
+        grown = deeper(alloc, &grown)?;
     }
+    Err(AllocError)
 }
 
 impl Slots {
@@ -96,17 +95,28 @@ impl Slots {
         }
     }
 
+    /// Puts tags behind the others; an error says that memory is wanting, or that there would be more
+    /// tags than a `usize` counts.
+    pub fn append(&mut self, alloc: Global, tags: &[Tag]) -> Result<(), AllocError>
+        ensures ok { OnOk result (self.new ≡ self.old ++ tags.now) }
+        ensures err { OnErr result (self.new ≡ self.old) }
+    {
+        let count = self.count.checked_add(tags.len()).ok_or(AllocError)?;
+        let (depth, tree) = with_room(alloc, &self.tree, self.depth, count)?;
+        let tree = put(alloc, &tree, depth, self.count, tags)?;
+        self.depth = depth;
+        self.count = count;
+        self.tree = tree;
+        Ok(())
+    }
+
     /// Puts a tag behind the others; an error says that memory is wanting, or that there are as many
     /// tags as a `usize` counts.
     pub fn push(&mut self, alloc: Global, tag: Tag) -> Result<(), AllocError>
         ensures ok { OnOk result (self.new ≡ self.old ++ tag ∷ []) }
         ensures err { OnErr result (self.new ≡ self.old) }
     {
-        let count = self.count.checked_add(1).ok_or(AllocError)?;
-        let (depth, tree) = pushed(alloc, &self.tree, self.depth, self.count, tag)?;
-        self.depth = depth;
-        self.count = count;
-        self.tree = tree;
+        self.append(alloc, slice::from_ref(&tag))?;
         Ok(())
     }
 
@@ -116,7 +126,7 @@ impl Slots {
         ensures ok { OnOk result (self.new ≡ slice_set self.old slot tag) }
         ensures err { OnErr result (self.new ≡ self.old) }
     {
-        self.tree = set(alloc, &self.tree, self.depth, slot, tag)?;
+        self.tree = put(alloc, &self.tree, self.depth, slot, slice::from_ref(&tag))?;
         Ok(())
     }
 

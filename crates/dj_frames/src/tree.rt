@@ -1,29 +1,52 @@
-//! Tags by slot in a binary tree of which trees that differ in one slot share all but one path.
+//! Tags by slot in a binary tree whose leaves are lists; trees that differ in few slots share the most of it.
 
-ghost use Rattle.std.specs.Prelude.{◌≡◌, ◌<◌, ◌^◌, ◌≤◌, ◌+◌, ◌-◌, suc, ◌++◌, ℕ, slice_get, slice_set, IfOk, Some};
-ghost use Rattle.dj_frames.specs.SlotTree.{tags};
-ghost use Rattle.dj_frames.specs.declared.tree.Tree.TheVariants.{All};
+ghost use Rattle.std.specs.Prelude.{◌≡◌, ◌<◌, ◌^◌, ◌≤◌, ◌+◌, ◌-◌, suc, ℕ, length, IfOk, IfSome};
+ghost use Rattle.dj_frames.specs.SlotTree.{listed, joined, tag_in, over, first_tags};
 
 use crate::tag::Tag;
+use dj_names::{Items, Shared};
 use std::alloc::{AllocError, Global};
 use std::rc::Rc;
+
+/// A tree of this depth or less is one list.
+const LEAF_DEPTH: u32 = 5;
+
+/// The tags of the first slots, and that of each other one.
+#[derive(Drop)]
+pub struct Run {
+    pub tags: Items<Tag>,
+    pub rest: Tag,
+}
 
 /// A tree of some depth, which has 2 to the power of that depth slots.
 #[derive(Drop)]
 pub enum Tree {
     /// Each slot has this tag.
     All(Tag),
+    /// The slots have these tags.
+    Leaf(Shared<Run>),
     /// The lower and the upper half of the slots.
     Fork(Rc<Tree>, Rc<Tree>),
 }
 
 /// The same tags, with all that is below the root shared.
 pub fn share(alloc: Global, tree: &Tree) -> Result<Tree, AllocError>
-    ensures same { (depth : ℕ) → IfOk result (λ copy. tags depth copy ≡ tags depth tree.now) }
+    ensures same { (depth slot : ℕ) → IfOk result (λ copy. tag_in depth copy slot ≡ tag_in depth tree.now slot) }
 {
     match tree {
         Tree::All(tag) => Ok(Tree::All(tag.copy(alloc)?)),
+        Tree::Leaf(run) => Ok(Tree::Leaf(run.share()?)),
         Tree::Fork(lower, upper) => Ok(Tree::Fork(lower.clone()?, upper.clone()?)),
+    }
+}
+
+/// The tag in a slot of a list behind which all have another one.
+fn listed<'a>(list: &'a [Tag], rest: &'a Tag, slot: usize) -> &'a Tag
+    ensures tag { result.now ≡ listed list.now rest.now slot }
+{
+    match list.get(slot) {
+        Some(tag) => tag,
+        None => rest,
     }
 }
 
@@ -32,7 +55,6 @@ fn half(depth: u32) -> usize
     requires deep { 0 < depth }
     requires small { depth ≤ 64 }
     ensures half { result ≡ 2 ^ (depth - 1) }
-    ensures twice { result + result ≡ 2 ^ depth }
 {
     1usize << (depth - 1)
 }
@@ -40,11 +62,14 @@ fn half(depth: u32) -> usize
 /// The tag in a slot of a tree.
 pub fn get(tree: &Tree, depth: u32, slot: usize) -> &Tag
     requires small { depth ≤ 64 }
-    requires within { slot < 2 ^ depth }
-    ensures tag { slice_get (tags depth tree.now) slot ≡ Some result.now }
+    ensures tag { result.now ≡ tag_in depth tree.now slot }
 {
     match tree {
         Tree::All(tag) => tag,
+        Tree::Leaf(run) => {
+            let run = run.get();
+            listed(run.tags.as_slice(), &run.rest, slot)
+        }
         Tree::Fork(lower, upper) => {
             if depth == 0 {
                 return get(lower, 0, slot);
@@ -59,9 +84,69 @@ pub fn get(tree: &Tree, depth: u32, slot: usize) -> &Tag
     }
 }
 
+/// The tag in a slot of a list with tags put over its own, from a slot on.
+fn over<'a>(list: &'a [Tag], rest: &'a Tag, start: usize, tags: &'a [Tag], slot: usize) -> &'a Tag
+    ensures tag { result.now ≡ over start tags.now (listed list.now rest.now) slot }
+{
+    if slot < start {
+        return listed(list, rest, slot);
+    }
+    match tags.get(slot - start) {
+        Some(tag) => tag,
+        None => listed(list, rest, slot),
+    }
+}
+
+/// So many tags of a list with tags put over its own.
+fn put_list(
+    alloc: Global,
+    list: &[Tag],
+    rest: &Tag,
+    start: usize,
+    tags: &[Tag],
+    len: usize,
+) -> Result<Items<Tag>, AllocError>
+    ensures put { IfOk result (λ made. made ≡ first_tags len (over start tags.now (listed list.now rest.now))) }
+{
+    let mut made = Items::from_vec(Vec::with_capacity(alloc, len)?);
+    for slot in 0..len {
+        made.push(over(list, rest, start, tags, slot).copy(alloc)?)?;
+    }
+    Ok(made)
+}
+
+/// A leaf of a list with tags put over its own.
+fn put_leaf(
+    alloc: Global,
+    list: &[Tag],
+    rest: &Tag,
+    start: usize,
+    tags: &[Tag],
+) -> Result<Tree, AllocError>
+    requires few { start + length tags.now < 2 ^ 64 }
+    ensures put { (depth slot : ℕ) → IfOk result (λ made. tag_in depth made slot ≡ over start tags.now (listed list.now rest.now) slot) }
+{
+    let len = list.len().max(start + tags.len());
+    let tags = put_list(alloc, list, rest, start, tags, len)?;
+    let rest = rest.copy(alloc)?;
+    let run = Shared::new(alloc, Run { tags, rest })?;
+    Ok(Tree::Leaf(run))
+}
+
+/// The part of a list from a slot on.
+fn behind(alloc: Global, list: &[Tag], rest: &Tag, from: usize) -> Result<Tree, AllocError>
+    ensures behind { (depth slot : ℕ) → IfOk result (λ made. tag_in depth made slot ≡ listed list.now rest.now (from + slot)) }
+{
+    if list.len() <= from {
+        return Ok(Tree::All(rest.copy(alloc)?));
+    }
+    let made = put_leaf(alloc, &[], rest, 0, &list[from..])?;
+    Ok(made)
+}
+
 /// The two halves of a tree.
-fn halves(alloc: Global, tree: &Tree) -> Result<(Rc<Tree>, Rc<Tree>), AllocError>
-    ensures halves { (depth : ℕ) → IfOk result (λ pair. tags (suc depth) tree.now ≡ tags depth pair.0.value ++ tags depth pair.1.value) }
+fn halves(alloc: Global, tree: &Tree, half: usize) -> Result<(Rc<Tree>, Rc<Tree>), AllocError>
+    ensures halves { (depth slot : ℕ) → half ≡ 2 ^ depth → IfOk result (λ pair. tag_in (suc depth) tree.now slot ≡ joined half (tag_in depth pair.0.value) (tag_in depth pair.1.value) slot) }
 {
     match tree {
         Tree::All(tag) => {
@@ -69,42 +154,90 @@ fn halves(alloc: Global, tree: &Tree) -> Result<(Rc<Tree>, Rc<Tree>), AllocError
             let upper = Tree::All(tag.copy(alloc)?);
             Ok((Rc::new(alloc, lower)?, Rc::new(alloc, upper)?))
         }
+        Tree::Leaf(run) => {
+            let lower = Tree::Leaf(run.share()?);
+            let run = run.get();
+            let upper = behind(alloc, run.tags.as_slice(), &run.rest, half)?;
+            Ok((Rc::new(alloc, lower)?, Rc::new(alloc, upper)?))
+        }
         Tree::Fork(lower, upper) => Ok((lower.clone()?, upper.clone()?)),
     }
 }
 
-/// The tree with a tag put into a slot.
-pub fn set(
-    alloc: Global,
-    tree: &Tree,
-    depth: u32,
-    slot: usize,
-    tag: Tag,
-) -> Result<Tree, AllocError>
-    requires small { depth ≤ 64 }
-    requires within { slot < 2 ^ depth }
-    ensures set { IfOk result (λ after. tags depth after ≡ slice_set (tags depth tree.now) slot tag) }
+/// A tree of depth 0 with tags put over its own, from a slot on.
+fn put_root(alloc: Global, tree: &Tree, start: usize, tags: &[Tag]) -> Result<Tree, AllocError>
+    ensures put { IfOk result (λ after. tag_in 0 after 0 ≡ over start tags.now (tag_in 0 tree.now) 0) }
 {
-    if depth == 0 {
-        return Ok(Tree::All(tag));
-    }
-    let half = half(depth);
-    let (lower, upper) = halves(alloc, tree)?;
-    if slot < half {
-        let lower = set(alloc, &lower, depth - 1, slot, tag)?;
-        Ok(Tree::Fork(Rc::new(alloc, lower)?, upper))
-    } else {
-        let upper = set(alloc, &upper, depth - 1, slot - half, tag)?;
-        Ok(Tree::Fork(lower, Rc::new(alloc, upper)?))
+    match tags.first() {
+        Some(tag) if start == 0 => Ok(Tree::All(tag.copy(alloc)?)),
+        _ => {
+            let same = share(alloc, tree)?;
+            Ok(same)
+        }
     }
 }
 
-/// A tree of twice as many slots, of which the upper half has this tag.
-pub fn doubled(alloc: Global, tree: &Tree, tag: Tag) -> Result<Tree, AllocError>
-    ensures doubled { (depth : ℕ) → IfOk result (λ after. tags (suc depth) after ≡ tags depth tree.now ++ tags depth (All tag)) }
+/// The list that a tree is, and the tag behind it, where it isn't to be forked.
+fn list_of(tree: &Tree, depth: u32) -> Option<(&[Tag], &Tag)>
+    ensures same { (slot : ℕ) → IfSome result (λ x. tag_in depth tree.now slot ≡ listed x.0.now x.1.now slot) }
 {
-    let lower = share(alloc, tree)?;
-    let lower = Rc::new(alloc, lower)?;
-    let upper = Rc::new(alloc, Tree::All(tag))?;
-    Ok(Tree::Fork(lower, upper))
+    match tree {
+        Tree::All(tag) if depth <= LEAF_DEPTH => Some((&[], tag)),
+        Tree::Leaf(run) if depth <= LEAF_DEPTH => {
+            let run = run.get();
+            Some((run.tags.as_slice(), &run.rest))
+        }
+        _ => None,
+    }
+}
+
+/// The tree with tags put over its own, from a slot on.
+pub fn put(
+    alloc: Global,
+    tree: &Tree,
+    depth: u32,
+    start: usize,
+    tags: &[Tag],
+) -> Result<Tree, AllocError>
+    requires small { depth ≤ 64 }
+    requires few { start + length tags.now < 2 ^ 64 }
+    ensures put { (slot : ℕ) → slot < 2 ^ depth → IfOk result (λ after. tag_in depth after slot ≡ over start tags.now (tag_in depth tree.now) slot) }
+{
+    if depth == 0 {
+        let root = put_root(alloc, tree, start, tags)?;
+        return Ok(root);
+    }
+    if let Some((list, rest)) = list_of(tree, depth) {
+        let leaf = put_leaf(alloc, list, rest, start, tags)?;
+        return Ok(leaf);
+    }
+    let half = half(depth);
+    let (lower, upper) = halves(alloc, tree, half)?;
+    if half <= start {
+        let after = put(alloc, &upper, depth - 1, start - half, tags)?;
+        return Ok(Tree::Fork(lower, Rc::new(alloc, after)?));
+    }
+    let room = half - start;
+    if tags.len() <= room {
+        let after = put(alloc, &lower, depth - 1, start, tags)?;
+        return Ok(Tree::Fork(Rc::new(alloc, after)?, upper));
+    }
+    let below = put(alloc, &lower, depth - 1, start, &tags[..room])?;
+    let above = put(alloc, &upper, depth - 1, 0, &tags[room..])?;
+    Ok(Tree::Fork(Rc::new(alloc, below)?, Rc::new(alloc, above)?))
+}
+
+/// A tree of twice as many slots, with the same tags in the lower half.
+pub fn deeper(alloc: Global, tree: &Tree) -> Result<Tree, AllocError>
+    ensures same { (depth slot : ℕ) → slot < 2 ^ depth → IfOk result (λ after. tag_in (suc depth) after slot ≡ tag_in depth tree.now slot) }
+{
+    let same = share(alloc, tree)?;
+    match tree {
+        Tree::All(_) | Tree::Leaf(_) => Ok(same),
+        Tree::Fork(..) => {
+            let lower = Rc::new(alloc, same)?;
+            let upper = Rc::new(alloc, Tree::All(Tag::Top))?;
+            Ok(Tree::Fork(lower, upper))
+        }
+    }
 }

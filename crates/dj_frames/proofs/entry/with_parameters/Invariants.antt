@@ -4,4 +4,4 @@ use Rattle.dj_frames.specs.Frames.{view_tags, tag_of}
 use Rattle.dj_frames.proofs.entry.with_parameters.Given as goal
 
 abbrev pub invariant-loop-kind : goal.invariant-loop-kind
-invariant-loop-kind l = view_tags l.locals ≡ view_tags l.fn.locals ++ map tag_of (view_types (take l.kind-index l.kinds))
+invariant-loop-kind l = view_tags l.values ≡ view_tags l.fn.values ++ map tag_of (view_types (take l.kind-index l.kinds))

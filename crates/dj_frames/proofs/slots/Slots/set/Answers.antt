@@ -1,13 +1,21 @@
-use Rattle.std.proofs.Common.{◌<◌, length, take, set, List, ap, ◌∙◌, arith}
-use Rattle.std.proofs.Math.Seq.{take-set-lt}
+use Rattle.std.proofs.Common.{◌≡◌, ◌≤◌, ◌^◌, List, length, set, sym, ap, ◌∙◌, arith}
+use Rattle.std.proofs.Math.Pow.{pow_mono}
 use Rattle.dj_frames.specs.declared.tag.Tag.{Tag}
-use Rattle.dj_frames.specs.SlotTree.{tags}
-use Rattle.dj_frames.proofs.Halves.{length_first}
+use Rattle.dj_frames.specs.SlotTree.{tag_in, over}
+use Rattle.dj_frames.proofs.SlotTags.{length_first, first_set}
 use Rattle.dj_frames.proofs.slots.Slots.set.Goals as goal
+
+pub put-requires-clause-few : goal.put-requires-clause-few
+put-requires-clause-few c =
+    let i = c.self.inside in
+    let long : i.count ≡ length c.args.self.now = sym (length_first i.count (tag_in i.depth i.tree)) ∙ ap length c.self.view_is in
+    let shallow : i.depth ≤ 63 = omega (arith, c.self.invariant.0) in
+    let room : 2 ^ i.depth ≤ 2 ^ 63 = pow_mono shallow in
+    omega (arith, c.requires, long, room, c.self.invariant.1, c.from_ref.ensures.len)
 
 pub returns-clause-ok : goal.returns-clause-ok
 returns-clause-ok c =
     let i = c.self.inside in
-    let long = length_first i.depth i.count i.tree c.self.invariant.1 ∙ ap length c.self.view_is in
-    let within : c.args.slot < i.count = omega (arith, c.requires) in
-    ap (take i.count) c.in_ok-self-inside.ensures.set ∙ take-set-lt i.count (tags i.depth i.tree) c.args.slot c.args.tag within ∙ ap (λ (list : List Tag). set list c.args.slot c.args.tag) c.self.view_is
+    let long : i.count ≡ length c.args.self.now = sym (length_first i.count (tag_in i.depth i.tree)) ∙ ap length c.self.view_is in
+    first_set i.count c.args.slot c.args.tag (tag_in i.depth i.tree) (tag_in i.depth c.in_ok-self-inside.field-0) (omega (arith, c.requires, long))
+    (λ s lt. c.in_ok-self-inside.ensures.put s (omega (arith, lt, c.self.invariant.1)) ∙ ap (λ (tags : List Tag). over c.args.slot tags (tag_in i.depth i.tree) s) c.from_ref.ensures.value) ∙ ap (λ (list : List Tag). set list c.args.slot c.args.tag) c.self.view_is
