@@ -14,9 +14,7 @@ const OLDEST: u16 = 50;
 
 fn fault_line(alloc: Global, fault: ClassFault) -> Result<String> {
     match fault {
-        ClassFault::Broken { kind, offset } => {
-            Ok(format!(in alloc; "{kind:?} {offset}")?)
-        }
+        ClassFault::Broken { kind, offset } => { Ok(format!(in alloc; "{kind:?} {offset}")?) }
         ClassFault::Memory(_) => Ok(format!(in alloc; "memory")?),
     }
 }

@@ -1,7 +1,5 @@
-//! A class file, its beginnings, and the content of its code; worked runs in `rows/` show files that differ from it in little.
-use dj_class::{BrokenKind, ClassFault, ClassFile, Entry, Pool, has_attribute, read_class};
-use dj_code::{CodeContent, read_content};
-use dj_names::Items;
+//! A class file and its beginnings; worked runs in `rows/` show files that differ from it in little.
+use dj_class::{BrokenKind, ClassFault, ClassFile, Entry, Pool, read_class};
 use std::alloc::{AllocError, Global};
 use std::test::Fail;
 
@@ -96,34 +94,5 @@ fn fewer_bytes_or_more_are_no_class(rt: HostRuntime) -> Result<(), Fail> {
         broken(rt.alloc(), part(0, 103))?,
         Some((BrokenKind::Trailing, 102))
     );
-    Ok(())
-}
-
-/// Whether this is the content of the method's Code.
-fn is_content(pool: &Pool, content: &CodeContent) -> bool {
-    content.max_stack == 2
-        && content.max_locals == 2
-        && content.code.as_slice() == [0x1a, 0x1b, 0x64, 0xac].as_slice()
-        && content.handlers.is_empty()
-        && !has_attribute(pool, content.attributes.as_slice(), "StackMapTable")
-}
-
-/// Whether these bytes are the content of the method's Code.
-fn holds_content(alloc: Global, bytes: &[u8]) -> Result<bool, AllocError> {
-    let pool = Pool::new(alloc, Items::new(alloc))?;
-    Ok(match read_content(alloc, bytes)? {
-        Some(content) => is_content(&pool, &content),
-        None => false,
-    })
-}
-
-fn is_no_content(alloc: Global, bytes: &[u8]) -> Result<bool, AllocError> {
-    Ok(read_content(alloc, bytes)?.is_none())
-}
-
-#[test]
-fn the_content_of_code_is_read(rt: HostRuntime) -> Result<(), Fail> {
-    assert!(rt; holds_content(rt.alloc(), part(84, 100))?);
-    assert!(rt; is_no_content(rt.alloc(), part(84, 99))?);
     Ok(())
 }

@@ -1,19 +1,32 @@
 //! The code of one method: what is read of it, and its first fault (JVMS 4.7.3, 4.7.4, 4.9.1).
-use dj_class::{ClassFault, read_class};
-use dj_code::{BadKind, Code, CodeFault, read_code};
+use dj_class::{ClassFault, ClassFile, Method, read_class};
+use dj_code::{BadKind, Code, CodeFault, Typed, read_code};
+use dj_frames::entry_frame;
+use dj_names::Items;
 use std::alloc::{AllocError, Global};
 use std::test::Fail;
 
 /// A class `C` up to the content of the Code of its one method, static `f` of two ints and an int
-/// result; the text at 8 is StackMapTable.
-const HEAD: [u8; 96] = [
-    0xca, 0xfe, 0xba, 0xbe, 0x00, 0x00, 0x00, 0x34, 0x00, 0x09, 0x01, 0x00, 0x01, 0x43, 0x07, 0x00,
+/// result; the text at 8 is StackMapTable, and from 9 on stands what instructions may name: `f` as
+/// a method, as an interface's and as an int field, a call site, a string, a handle, a method type,
+/// and the class of arrays of arrays of ints.
+const HEAD: [u8; 149] = [
+    0xca, 0xfe, 0xba, 0xbe, 0x00, 0x00, 0x00, 0x34, 0x00, 0x15, 0x01, 0x00, 0x01, 0x43, 0x07, 0x00,
     0x01, 0x01, 0x00, 0x10, 0x6a, 0x61, 0x76, 0x61, 0x2f, 0x6c, 0x61, 0x6e, 0x67, 0x2f, 0x4f, 0x62,
     0x6a, 0x65, 0x63, 0x74, 0x07, 0x00, 0x03, 0x01, 0x00, 0x01, 0x66, 0x01, 0x00, 0x05, 0x28, 0x49,
     0x49, 0x29, 0x49, 0x01, 0x00, 0x04, 0x43, 0x6f, 0x64, 0x65, 0x01, 0x00, 0x0d, 0x53, 0x74, 0x61,
-    0x63, 0x6b, 0x4d, 0x61, 0x70, 0x54, 0x61, 0x62, 0x6c, 0x65, 0x00, 0x21, 0x00, 0x02, 0x00, 0x04,
-    0x00, 0x00, 0x00, 0x00, 0x00, 0x01, 0x00, 0x08, 0x00, 0x05, 0x00, 0x06, 0x00, 0x01, 0x00, 0x07,
+    0x63, 0x6b, 0x4d, 0x61, 0x70, 0x54, 0x61, 0x62, 0x6c, 0x65, 0x0c, 0x00, 0x05, 0x00, 0x06, 0x0a,
+    0x00, 0x02, 0x00, 0x09, 0x0b, 0x00, 0x02, 0x00, 0x09, 0x01, 0x00, 0x01, 0x49, 0x0c, 0x00, 0x05,
+    0x00, 0x0c, 0x09, 0x00, 0x02, 0x00, 0x0d, 0x12, 0x00, 0x00, 0x00, 0x09, 0x08, 0x00, 0x05, 0x0f,
+    0x06, 0x00, 0x0a, 0x10, 0x00, 0x06, 0x01, 0x00, 0x03, 0x5b, 0x5b, 0x49, 0x07, 0x00, 0x13, 0x00,
+    0x21, 0x00, 0x02, 0x00, 0x04, 0x00, 0x00, 0x00, 0x00, 0x00, 0x01, 0x00, 0x08, 0x00, 0x05, 0x00,
+    0x06, 0x00, 0x01, 0x00, 0x07,
 ];
+
+/// The bytes up to the content; of a function that says nothing, proofs carry no list of bytes.
+fn head() -> &'static [u8] {
+    &HEAD
+}
 
 /// What is told of a method's code, as far as a test looks.
 #[derive(Clone, Copy, Debug, PartialEq, Eq)]
@@ -26,7 +39,7 @@ enum Told {
 
 /// The class whose Code has this content, as bytes.
 fn class_with(alloc: Global, content: &[u8]) -> Result<Vec<u8>, AllocError> {
-    let mut bytes = Vec::from_slice(alloc, &HEAD)?;
+    let mut bytes = Vec::from_slice(alloc, head())?;
     let length = u32::try_from(content.len()).unwrap_or(0);
     bytes.extend_from_slice(&length.to_be_bytes())?;
     bytes.extend_from_slice(content)?;
@@ -51,6 +64,18 @@ fn read(code: &Code) -> Told {
     )
 }
 
+/// The code with the frame that its method begins with, copied.
+fn typed(
+    alloc: Global,
+    class: &ClassFile,
+    method: &Method,
+    code: Code,
+) -> Result<Typed, AllocError> {
+    let mut frames = Items::new(alloc);
+    frames.push(entry_frame(alloc, &class.this_class, method)?)?;
+    Typed { code, frames }.copy(alloc)
+}
+
 /// What is told of the method whose Code has this content.
 fn answer_to(alloc: Global, content: &[u8]) -> Result<Told, AllocError> {
     let bytes = class_with(alloc, content)?;
@@ -61,7 +86,7 @@ fn answer_to(alloc: Global, content: &[u8]) -> Result<Told, AllocError> {
                     return Ok(Told::NoClass);
                 }
                 match read_code(alloc, &class, 0) {
-                    Ok(code) => Ok(read(&code.copy(alloc)?)),
+                    Ok(code) => Ok(read(&typed(alloc, &class, method, code)?.code)),
                     Err(CodeFault::BadCode { pc, kind }) => Ok(Told::Bad(pc, kind)),
                     Err(CodeFault::Memory(error)) => Err(error),
                 }
@@ -74,7 +99,7 @@ fn answer_to(alloc: Global, content: &[u8]) -> Result<Told, AllocError> {
 }
 
 /// Contents of a Code, each with what is told of it.
-fn rows() -> [(&'static [u8], Told); 13] {
+fn rows() -> [(&'static [u8], Told); 14] {
     [
         // A jump into its own operand.
         (
@@ -135,6 +160,11 @@ fn rows() -> [(&'static [u8], Told); 13] {
         (
             b"\x00\x02\x00\x02\x00\x00\x00\x04\xa7\x00\x01\xff\x00\x00\x00\x00",
             Told::Bad(3, BadKind::Opcode),
+        ),
+        // An instruction of each kind that names something, and both switches.
+        (
+            b"\x00\x02\x00\x02\x00\x00\x00\x5d\x12\x10\x12\x02\x12\x11\x12\x12\xb2\x00\x0e\xb3\x00\x0e\xb4\x00\x0e\xb5\x00\x0e\xb6\x00\x0a\xb7\x00\x0a\xb8\x00\x0a\xb9\x00\x0b\x03\x00\xba\x00\x0f\x00\x00\xbb\x00\x02\xbd\x00\x02\xc5\x00\x14\x02\xc0\x00\x02\xc1\x00\x02\xaa\x00\x00\x00\x11\x00\x00\x00\x00\x00\x00\x00\x00\x00\x00\x00\x11\xab\x00\x00\x00\x00\x00\x00\x14\x00\x00\x00\x01\x00\x00\x00\x05\x00\x00\x00\x14\xac\x00\x00\x00\x00",
+            Told::Read(21, 0, [99_999, 99_999]),
         ),
         // A byte less than the code says.
         (

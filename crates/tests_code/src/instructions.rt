@@ -48,12 +48,15 @@ fn pool(alloc: Global) -> Result<Pool, AllocError> {
     Pool::new(alloc, entries)
 }
 
-/// The instructions of a code, where it isn't longer than code may be.
+/// The instructions of a code; one that is longer than code may be is told as cut off.
 fn read(alloc: Global, code: &[u8]) -> Result<Items<(u32, Instruction)>, Stop<BadKind>>
     ensures rising { IfOk result (λ found. IsRising (view_instructions found)) }
 {
     if code.len() > 65_535 {
-        return Err(Stop::Memory);
+        return Err(Stop::Fault(Fault {
+            kind: BadKind::CutOff,
+            offset: 0,
+        }));
     }
     let pool = pool(alloc)?;
     let found = read_instructions(alloc, &pool, code)?;

@@ -1,26 +1,25 @@
 //! Actions and answers from texts, and which go together.
-use crate::texts::{class_name, cut, descriptor, kind, number, reference, units};
+use crate::texts::{class_name, cut, descriptor, kind, object, reference, units};
 use anyhow::Result;
 use dj_headers::Headers;
 use dj_names::{Boxed, Items, Units};
-use dj_values::{Action, Answer, InvokeKind, RefValue, Value, fits};
+use dj_values::{Action, Answer, InvokeKind, Value, fits};
 use std::alloc::Global;
 
-/// An object of a class A, whose members the actions name.
-fn object(alloc: Global) -> Result<RefValue> {
-    reference(alloc, "LA;")
-}
-
+/// The name of the members of the class A.
 fn member(alloc: Global) -> Result<Units> {
     units(alloc, "m")
 }
 
-/// A type and a size.
-fn new_array(alloc: Global, text: &str) -> Result<Action> {
+/// A type and a size, if it is a number.
+fn new_array(alloc: Global, text: &str) -> Result<Option<Action>> {
     let (name, size) = cut(text, ' ');
+    let Some(size) = size.parse::<i32>().ok() else {
+        return Ok(None);
+    };
     let mut sizes = Items::new(alloc);
-    sizes.push(size.parse::<i32>().unwrap_or(0))?;
-    Ok(Action::NewArray(kind(alloc, name)?, sizes))
+    sizes.push(size)?;
+    Ok(Some(Action::NewArray(kind(alloc, name)?, sizes)))
 }
 
 fn get_field(alloc: Global, text: &str) -> Result<Action> {
@@ -61,45 +60,73 @@ fn invoke(alloc: Global, text: &str) -> Result<Action> {
     Ok(Action::Invoke(InvokeKind::Virtual, owner, name, method, Items::new(alloc)))
 }
 
-fn store(alloc: Global, text: &str) -> Result<Action> {
-    Ok(Action::ArrayStore(reference(alloc, text)?, 0, Value::Null))
-}
-
-fn action_of(alloc: Global, text: &str) -> Result<Action> {
-    let (word, rest) = cut(text, ' ');
-    match word {
-        "new" => Ok(Action::New(class_name(alloc, rest)?)),
-        "array" => new_array(alloc, rest),
-        "get" => get_field(alloc, rest),
-        "put" => put_field(alloc, rest),
-        "getstatic" => get_static(alloc, rest),
-        "putstatic" => put_static(alloc, rest),
-        "load" => Ok(Action::ArrayLoad(reference(alloc, rest)?, 0)),
-        "store" => store(alloc, rest),
-        "call" => invoke(alloc, rest),
-        "literal" => Ok(Action::ClassConstant(kind(alloc, rest)?)),
-        "enter" => Ok(Action::Enter(object(alloc)?)),
-        "exit" => Ok(Action::Exit(object(alloc)?)),
-        _ => Ok(Action::Trap(class_name(alloc, rest)?)),
+fn load(alloc: Global, text: &str) -> Result<Option<Action>> {
+    match reference(alloc, text)? {
+        Some(array) => Ok(Some(Action::ArrayLoad(array, 0))),
+        None => Ok(None),
     }
 }
 
-fn answer_of(alloc: Global, text: &str) -> Result<Answer> {
+fn store(alloc: Global, text: &str) -> Result<Option<Action>> {
+    match reference(alloc, text)? {
+        Some(array) => Ok(Some(Action::ArrayStore(array, 0, Value::Null))),
+        None => Ok(None),
+    }
+}
+
+/// The action that the text spells, if it spells one.
+fn action_of(alloc: Global, text: &str) -> Result<Option<Action>> {
     let (word, rest) = cut(text, ' ');
     match word {
-        "int" => Ok(Answer::Value(Value::Int(rest.parse::<i32>().unwrap_or(0)))),
-        "long" => Ok(Answer::Value(Value::Long(i64::from(number(rest))))),
-        "null" => Ok(Answer::Value(Value::Null)),
-        "ref" => Ok(Answer::Value(Value::Ref(reference(alloc, rest)?))),
-        "thrown" => Ok(Answer::Thrown(reference(alloc, rest)?)),
-        _ => Ok(Answer::Done),
+        "new" => Ok(Some(Action::New(class_name(alloc, rest)?))),
+        "array" => new_array(alloc, rest),
+        "get" => Ok(Some(get_field(alloc, rest)?)),
+        "put" => Ok(Some(put_field(alloc, rest)?)),
+        "getstatic" => Ok(Some(get_static(alloc, rest)?)),
+        "putstatic" => Ok(Some(put_static(alloc, rest)?)),
+        "load" => load(alloc, rest),
+        "store" => store(alloc, rest),
+        "call" => Ok(Some(invoke(alloc, rest)?)),
+        "literal" => Ok(Some(Action::ClassConstant(kind(alloc, rest)?))),
+        "enter" => Ok(Some(Action::Enter(object(alloc)?))),
+        "exit" => Ok(Some(Action::Exit(object(alloc)?))),
+        "trap" => Ok(Some(Action::Trap(class_name(alloc, rest)?))),
+        _ => Ok(None),
+    }
+}
+
+/// The value that the text spells, if it spells one.
+fn value_of(alloc: Global, word: &str, rest: &str) -> Result<Option<Value>> {
+    match word {
+        "int" => Ok(rest.parse::<i32>().ok().map(Value::Int)),
+        "long" => Ok(rest.parse::<i64>().ok().map(Value::Long)),
+        "null" => Ok(Some(Value::Null)),
+        "ref" => Ok(reference(alloc, rest)?.map(Value::Ref)),
+        _ => Ok(None),
+    }
+}
+
+/// The answer that the text spells, if it spells one.
+fn answer_of(alloc: Global, text: &str) -> Result<Option<Answer>> {
+    let (word, rest) = cut(text, ' ');
+    match word {
+        "done" => Ok(Some(Answer::Done)),
+        "thrown" => Ok(reference(alloc, rest)?.map(Answer::Thrown)),
+        _ => Ok(value_of(alloc, word, rest)?.map(Answer::Value)),
     }
 }
 
 /// In a box, since what an enum of so many kinds leaves is long to prove at each exit.
-fn boxed_action(alloc: Global, text: &str) -> Result<Boxed<Action>> {
-    let action = action_of(alloc, text)?;
-    Ok(Boxed::new(alloc, action)?)
+fn boxed_action(alloc: Global, text: &str) -> Result<Option<Boxed<Action>>> {
+    match action_of(alloc, text)? {
+        Some(action) => Ok(Some(Boxed::new(alloc, action)?)),
+        None => Ok(None),
+    }
+}
+
+/// The action, copied.
+fn copied_action(alloc: Global, action: &Action) -> Result<Boxed<Action>> {
+    Ok(Boxed::new(alloc, action.copy(alloc)?)?)
 }
 
 /// Whether the action can have the answer that is told.
@@ -109,8 +136,10 @@ fn answer_word(
     action: &Action,
     text: &str,
 ) -> Result<&'static str> {
-    let answer = answer_of(alloc, text)?;
-    let word = if fits(headers, action, &answer) {
+    let Some(answer) = answer_of(alloc, text)? else {
+        return Ok("unknown");
+    };
+    let word = if fits(headers, action, &answer.copy(alloc)?) {
         "fits"
     } else {
         "doesn't"
@@ -118,9 +147,15 @@ fn answer_word(
     Ok(word)
 }
 
-/// Whether the answer behind the bar is one that the action before it can have.
+/// Whether the answer behind the bar is one that the action before it can have; both are copied
+/// first.
 pub fn action_answer(alloc: Global, headers: &Headers, text: &str) -> Result<&'static str> {
     let (action, answer) = cut(text, '|');
-    let action = boxed_action(alloc, action)?;
-    answer_word(alloc, headers, action.get(), answer)
+    match boxed_action(alloc, action)? {
+        Some(action) => {
+            let copy = copied_action(alloc, action.get())?;
+            answer_word(alloc, headers, copy.get(), answer)
+        }
+        None => Ok("unknown"),
+    }
 }

@@ -78,7 +78,9 @@ pub fn add_chain(
     from_below: bool,
 ) -> Result<&'static str> {
     let (word, last) = cut(text, ' ');
-    let last = number(last);
+    let Some(last) = number(last) else {
+        return Ok("unknown");
+    };
     for step in 0..last {
         let number = if from_below { last - step } else { step + 1 };
         add_link(alloc, headers, word, number)?;
@@ -98,7 +100,9 @@ fn add_diamond(alloc: Global, headers: &mut Headers, word: &str, level: u32) -> 
 
 /// Levels of two interfaces, each with both of the level above as its own.
 pub fn diamonds(alloc: Global, headers: &mut Headers, text: &str) -> Result<&'static str> {
-    let levels = number(text);
+    let Some(levels) = number(text) else {
+        return Ok("unknown");
+    };
     for step in 0..levels {
         add_diamond(alloc, headers, "left", step + 1)?;
         add_diamond(alloc, headers, "right", step + 1)?;
@@ -119,4 +123,10 @@ pub fn below(alloc: Global, headers: &Headers, text: &str) -> Result<&'static st
     } else {
         "no"
     })
+}
+
+/// The headers are a copy of themselves from here on.
+pub fn copied(alloc: Global, headers: &mut Headers) -> Result<&'static str> {
+    *headers = headers.copy(alloc)?;
+    Ok("copied")
 }

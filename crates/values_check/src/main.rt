@@ -1,6 +1,6 @@
-//! Answers questions on headers and values, a line each: which class stands above which, and which answer an action can have.
+//! Answers questions on headers and values, a line each: which class stands above which, and which answer an action can have; `unknown` where a line asks neither.
 //! It stands on headers and values, and reads and prints.
-//! No layer stands above it; its stored run has each kind of action, circles, diamonds and long chains.
+//! No layer stands above it; its stored run has each kind of action, copied, circles, diamonds, which are copied, and long chains.
 #![tactic(auto)]
 
 mod actions;
@@ -8,7 +8,7 @@ mod hierarchy;
 mod texts;
 
 use crate::actions::action_answer;
-use crate::hierarchy::{add_chain, add_class, below, diamonds};
+use crate::hierarchy::{add_chain, add_class, below, copied, diamonds};
 use crate::texts::cut;
 use anyhow::Result;
 use dj_headers::Headers;
@@ -25,6 +25,7 @@ fn answer(alloc: Global, headers: &mut Headers, line: &str) -> Result<&'static s
         "chain_from_below" => add_chain(alloc, headers, rest, true),
         "diamonds" => diamonds(alloc, headers, rest),
         "below" => below(alloc, headers, rest),
+        "copy" => copied(alloc, headers),
         _ => action_answer(alloc, headers, line),
     }
 }

@@ -30,17 +30,37 @@ pub fn kind(alloc: Global, text: &str) -> Result<JType> {
     }
 }
 
-/// The number that the text is, or 0.
-pub fn number(text: &str) -> u32 {
-    text.parse::<u32>().unwrap_or(0)
+/// The number that the text is, if it is one.
+pub fn number(text: &str) -> Option<u32> {
+    text.parse::<u32>().ok()
 }
 
-/// A reference, as `[I 3`: its class and, for an array, its length.
-pub fn reference(alloc: Global, text: &str) -> Result<RefValue> {
-    let (class, length) = cut(text, ' ');
+/// The length that the text is; 0 where there is no text.
+fn length(text: &str) -> Option<u32> {
+    if text.is_empty() {
+        return Some(0);
+    }
+    number(text)
+}
+
+/// A reference, as `[I 3`: its class and, for an array, its length; none where that is no number.
+pub fn reference(alloc: Global, text: &str) -> Result<Option<RefValue>> {
+    let (class, size) = cut(text, ' ');
+    match length(size) {
+        Some(length) => Ok(Some(RefValue {
+            id: RefId::Number(7),
+            class: kind(alloc, class)?,
+            length,
+        })),
+        None => Ok(None),
+    }
+}
+
+/// An object of a class A.
+pub fn object(alloc: Global) -> Result<RefValue> {
     Ok(RefValue {
         id: RefId::Number(7),
-        class: kind(alloc, class)?,
-        length: number(length),
+        class: kind(alloc, "LA;")?,
+        length: 0,
     })
 }
