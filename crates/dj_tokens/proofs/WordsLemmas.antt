@@ -1,10 +1,10 @@
 -- How a text falls into words: a run of letters or operators is one word, a blank none, each other character one (JLS 3.5).
-use Rattle.std.proofs.Common.{◌≡◌, ◌≢◌, ℕ, zero, suc, ◌+◌, ◌≤◌, Bool, true, false, cond, List, [], ◌∷◌, ◌++◌, length, get_or, take, drop, refl, sym, ap, ◌∙◌, arith, one-add, add-one}
+use Rattle.std.proofs.Common.{◌≡◌, ◌≢◌, ℕ, zero, suc, ◌+◌, ◌-◌, ◌<◌, ◌≤◌, Bool, true, false, cond, List, [], ◌∷◌, ◌++◌, length, get_or, take, drop, refl, sym, ap, ◌∙◌, arith, one-add, add-one}
 use Rattle.std.specs.Prelude.{if◌then◌else◌, nat_eq}
 use Rattle.std.specs.List.{AllByRecursion, take_while, prefix_len}
 use Rattle.std.proofs.lemmas.Bool.{false≢true}
 use Rattle.std.proofs.lemmas.Bool.Decides.{nat_tests}
-use Rattle.std.proofs.lemmas.List.{take-append-drop}
+use Rattle.std.proofs.lemmas.List.{drop_more, take-append-drop, take_all}
 use Rattle.std.proofs.lemmas.List.Folds.{length-prefix_len}
 use Rattle.dj_names.specs.ClassNames.{in_front}
 use Rattle.dj_tokens.specs.Words.{Words, Sort, Blank, Letter, Operator, Quote, Single, is_blank, is_letter, is_operator, is_quote, sort_of, begins, put_before, words, literal_words, literal_length, found_in, first_word, other_words}
@@ -159,6 +159,24 @@ pub front_literal : (character : ℕ) (text : List ℕ) (end : ℕ) → is_quote
 front_literal character text end is at =
     let are = words-quote character text is ∙ ends_behind character text (literal_words text) (literal_length false text) (literal_ends text) in
     rw at (sym (ap first_word are), sym (ap other_words are))
+
+-- the same, of a text that begins with a quote
+pub front_quote : (text : List ℕ) (inside : ℕ) → 1 ≤ length text → is_quote (get_or text 0 0) ≡ true → inside ≡ literal_length false (take (length text - 1) (drop 1 text))
+    → (take (1 + inside) text ≡ first_word (words text)) × (words (drop (1 + inside) text) ≡ other_words (words text))
+front_quote [] inside some is at = absurd (omega arith)
+front_quote (first ∷ rest) inside some is at =
+    let all : take (length (first ∷ rest) - 1) rest ≡ rest = take_all (length (first ∷ rest) - 1) rest (omega arith) in
+    front_literal first rest (1 + inside) is (ap (λ more. 1 + more) at ∙ ap (λ text. 1 + literal_length false text) all)
+
+-- a character behind a backslash is passed over
+pub literal_escaped : (escaped next : Bool) (place : ℕ) (text : List ℕ) → place < length text → escaped ≡ true → next ≡ false
+    → (place + 1) + literal_length next (drop (place + 1) text) ≡ place + literal_length escaped (drop place text)
+literal_escaped escaped next place text within is after = rw (is, after, drop_more text place 0 within) (omega arith)
+
+-- so is another character that is no quote
+pub literal_goes_on : (escaped next : Bool) (place : ℕ) (text : List ℕ) → place < length text → escaped ≡ false → is_quote (get_or text place 0) ≡ false → next ≡ nat_eq (get_or text place 0) 92
+    → (place + 1) + literal_length next (drop (place + 1) text) ≡ place + literal_length escaped (drop place text)
+literal_goes_on escaped next place text within is no_quote after = rw (is, after, drop_more text place 0 within, no_quote) (omega arith)
 
 -- ---- blanks
 

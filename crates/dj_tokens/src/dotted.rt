@@ -97,20 +97,14 @@ impl DottedName {
     }
 
     /// The type that the name names.
-    pub fn into_type(self, alloc: Global) -> Result<JType, AllocError>
+    pub fn into_type(mut self, alloc: Global) -> Result<JType, AllocError>
         ensures kind { IfOk result (λ kind. view_type kind ≡ type_of_name (view_name self)) }
     {
-        let DottedName {
-            primitive,
-            prefix,
-            last,
-            ..
-        } = self;
-        match primitive {
+        match self.primitive.take() {
             Some(kind) => Ok(kind),
             None => {
-                let class = joined_to(alloc, prefix, &last)?;
-                Ok(JType::Class(ClassName::new(Units::from_vec(class)?)))
+                let class = self.into_class(alloc)?;
+                Ok(JType::Class(class))
             }
         }
     }
@@ -119,10 +113,36 @@ impl DottedName {
     pub fn into_class(self, alloc: Global) -> Result<ClassName, AllocError>
         ensures whole { IfOk result (λ class. class ≡ whole (view_name self)) }
     {
-        let DottedName { prefix, last, .. } = self;
-        let class = joined_to(alloc, prefix, &last)?;
-        Ok(ClassName::new(Units::from_vec(class)?))
+        let units = self.into_units(alloc)?;
+        let class = class_named(units)?;
+        Ok(class)
     }
+
+    /// The whole name, with a slash for each dot.
+    fn into_units(self, alloc: Global) -> Result<Vec<u16>, AllocError>
+        ensures whole { IfOk result (λ units. units.items ≡ whole (view_name self)) }
+    {
+        let (prefix, last) = self.into_words();
+        let units = joined_to(alloc, prefix, &last)?;
+        Ok(units)
+    }
+
+    /// The words before the last one, and that one.
+    fn into_words(self) -> (Option<Vec<u16>>, Units)
+        ensures prefix { result.0 ≡ self.prefix }
+        ensures last { result.1 ≡ self.last }
+    {
+        let DottedName { prefix, last, .. } = self;
+        (prefix, last)
+    }
+}
+
+/// The class of this name.
+fn class_named(units: Vec<u16>) -> Result<ClassName, AllocError>
+    ensures named { IfOk result (λ class. class ≡ units.items) }
+{
+    let units = Units::from_vec(units)?;
+    Ok(ClassName::new(units))
 }
 
 /// A variable, where a word is spelled like one.
