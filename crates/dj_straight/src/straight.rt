@@ -113,7 +113,10 @@ fn calculate(
 ) -> Result<bool, AllocError>
     ensures stack { (formulas : List Formula) → AreNodes (reverse stack.old) formulas → IfOk result (λ done. WentOn done (calculated operation formulas) (reverse stack.new)) }
 {
-    let (Some(right), Some(left)) = (stack.pop(), stack.pop()) else {
+    let Some(right) = stack.pop() else {
+        return Ok(false);
+    };
+    let Some(left) = stack.pop() else {
         return Ok(false);
     };
     let Some(node) = Node::join(alloc, operation, left, right)? else {

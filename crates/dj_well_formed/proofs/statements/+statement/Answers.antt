@@ -6,7 +6,7 @@ use Rattle.dj_well_formed.proofs.statements.+statement.Goals as goal
 pub are_well_formed_groups-returns-then-not-is_well_formed_group :
     goal.are_well_formed_groups-returns-then-not-is_well_formed_group
 are_well_formed_groups-returns-then-not-is_well_formed_group t c =
-    let step = groups_step c.args.helper c.args.list.now c.loop-index.index c.index-list-index.result _ (omega arith) c.index-list-index.is c.is_last.ensures.last in
+    let step = groups_step c.args.helper c.args.list.now c.loop-index.index c.index-list-index.result _ (omega arith) c.index-list-index.is c.is_last-last.ensures.last in
     record {
       well_formed = (
         λ yes. absurd (false≢true yes),
@@ -16,7 +16,7 @@ are_well_formed_groups-returns-then-not-is_well_formed_group t c =
 
 pub are_well_formed_groups-loop-index-preserved : goal.are_well_formed_groups-loop-index-preserved
 are_well_formed_groups-loop-index-preserved t c =
-    let step = groups_step c.args.helper c.args.list.now c.loop-index.index c.index-list-index.result _ (omega arith) c.index-list-index.is c.is_last.ensures.last in (
+    let step = groups_step c.args.helper c.args.list.now c.loop-index.index c.index-list-index.result _ (omega arith) c.index-list-index.is c.is_last-last.ensures.last in (
       λ rest. c.loop-index.invariant.0 (step.1 (c.is_well_formed_group.ensures.well_formed.0 c.if-not-is_well_formed_group.false, rest)),
       λ all. (step.0 (c.loop-index.invariant.1 all)).1,
     )
