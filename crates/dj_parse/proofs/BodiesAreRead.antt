@@ -1,11 +1,11 @@
 -- Plain statements are read from their text, whatever follows (JLS 14).
-use Rattle.std.proofs.Common.{◌≡◌, ℕ, zero, suc, ◌+◌, ◌*◌, Bool, false, List, [], ◌∷◌, ◌++◌, refl, sym, ap, ◌∙◌, append_assoc, append-nil}
+use Rattle.std.proofs.Common.{◌≡◌, ℕ, zero, suc, ◌*◌, Bool, false, List, [], ◌∷◌, ◌++◌, refl, sym, ap, ◌∙◌, append_assoc, append-nil}
 use Rattle.std.specs.Prelude.{None, Some, codes, replicate, if◌then◌else◌}
 use Rattle.std.proofs.lemmas.Grind.{flat_map-append}
-use Rattle.dj_syntax.specs.Items.{Item, Line, Space, item_text, render}
+use Rattle.dj_syntax.specs.Items.{Item, Line, item_text, render}
 use Rattle.dj_syntax.specs.Trees.{Stm, Block, Return, Stms, Empty, And, stms_of}
 use Rattle.dj_syntax.specs.Trees as trees
-use Rattle.dj_syntax.specs.UnitText.{Spellings, deeper, exp_items, stm_items, stms_items, sign, word}
+use Rattle.dj_syntax.specs.UnitText.{Spellings, deeper, exp_items, stm_items, stms_items, sign}
 use Rattle.dj_syntax.specs.WellFormed.{IsWellFormedStm, AreWellFormedStms}
 use Rattle.dj_parse.specs.Plain.{IsPlainStm, ArePlainStms}
 use Rattle.dj_parse.specs.Words.{Words, words, is_word}
