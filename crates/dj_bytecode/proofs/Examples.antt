@@ -1,5 +1,5 @@
 -- What code shows at worked examples, by computation: a wrong definition is refused here.
-use Rattle.std.proofs.Common.{◌≡◌, false, List, [], ◌∷◌, Some, None, refl}
+use Rattle.std.proofs.Common.{◌≡◌, ℕ, zero, suc, false, List, [], ◌∷◌, Some, None, refl}
 use Rattle.std.specs.Prelude.{pos, negsuc, codes}
 use Rattle.dj_names.specs.Types as types
 use Rattle.dj_names.specs.Types.{Class, Method}
@@ -48,8 +48,11 @@ three_steps_go_on : bytecode_show [] (difference []) arguments [] 3 ≡ record {
 three_steps_go_on = refl
 
 -- before an instruction that the machine doesn't run yet it goes on, at every bound
-a_quotient_goes_on : bytecode_show [] (method ((0, op.Load kind.Int 0) ∷ (1, op.Load kind.Int 1) ∷ (2, op.Calc calc.Div kind.Int) ∷ (3, op.Return (Some kind.Int)) ∷ []) []) arguments [] 9 ≡ record { actions = []; end = More }
-a_quotient_goes_on = refl
+a_quotient_goes_on : (bound : ℕ) → bytecode_show [] (method ((0, op.Load kind.Int 0) ∷ (1, op.Load kind.Int 1) ∷ (2, op.Calc calc.Div kind.Int) ∷ (3, op.Return (Some kind.Int)) ∷ []) []) arguments [] bound ≡ record { actions = []; end = More }
+a_quotient_goes_on zero = refl
+a_quotient_goes_on (suc zero) = refl
+a_quotient_goes_on (suc (suc zero)) = refl
+a_quotient_goes_on (suc (suc (suc bound))) = refl
 
 -- ---- a handler
 

@@ -1,11 +1,11 @@
 -- The machine: what an instruction does, and what a bounded run of a method's code comes to (JVMS 2.6, 2.10, 2.11, 6.5).
-use Rattle.std.specs.Prelude.{ℕ, zero, suc, ◌-◌, ◌==◌, ◌&&◌, nat_le, nat_lt, Bool, true, false, if◌then◌else◌, ℤ, pos, length, replicate, List, [], ◌∷◌, ◌++◌, Option, Some, None, slice_index_or, slice_set}
+use Rattle.std.specs.Prelude.{ℕ, zero, suc, ◌-◌, ◌==◌, ◌&&◌, nat_le, nat_lt, Bool, true, if◌then◌else◌, ℤ, pos, length, replicate, List, [], ◌∷◌, ◌++◌, Option, Some, None, slice_index_or, slice_set}
 use Rattle.std.specs.Int.{w8, w16, w32, int_bit_and, int_rem_euclid, int_wrap, int_wrapping_add, int_wrapping_sub, int_wrapping_mul}
 use Rattle.dj_names.specs.declared.header.Header.{Header}
 use Rattle.dj_names.specs.Types as types
 use Rattle.dj_names.specs.Types.{JType, Boolean, Byte, Char, Short, Float, Double, Class, Array, result_of}
 use Rattle.dj_values.specs.Values.{RefValue, Value, Int, Long, Null, Ref, Answer, Show}
-use Rattle.dj_values.specs.Answers.{is_subclass}
+use Rattle.dj_values.specs.Deciding.{is_instance}
 use Rattle.dj_values.specs.Outcomes.{Throws, More, Stuck, Reply, Gives, Halts, there, then_on, State, Outcome, Is, Stops, bind, outside, opening, shown}
 use Rattle.dj_names.specs.declared.members.Constant.TheVariants as constant
 use Rattle.dj_instructions.specs.declared.kinds.Kind.TheVariants as kind
@@ -23,11 +23,11 @@ pub record Slots (S : Type 0) : Type 0 where
   pub read : S → ℕ → Option Value
   pub write : ℕ → Value → S → S
 
--- the locals of a method, by slot; None where nothing is, and in the second slot of a long
+-- the locals of a method, by slot; None where nothing is, and in the second slot of a long that is an argument
 abbrev pub Locals : Type 0
 Locals = List (Option Value)
 
--- locals, read and written by slot
+-- locals, read and written by slot; a write sets its own slot alone, also that of a long
 abbrev pub local_slots : Slots Locals
 local_slots = record { read = λ locals slot. slice_index_or locals slot None; write = λ slot value locals. slice_set locals slot (Some value) }
 
@@ -213,19 +213,6 @@ step_first headers slots result [] stack state = Stops Stuck state
 step_first headers slots result (first ∷ rest) stack state = step headers slots result (meaning_of first.1) rest stack state
 
 -- ---- exceptions
-
--- an exception's class is the second class, or below it
-abbrev pub is_instance : List Header → JType → List ℕ → Bool
-is_instance headers Boolean upper = false
-is_instance headers Byte upper = false
-is_instance headers Char upper = false
-is_instance headers Short upper = false
-is_instance headers types.Int upper = false
-is_instance headers types.Long upper = false
-is_instance headers Float upper = false
-is_instance headers Double upper = false
-is_instance headers (Class name) upper = is_subclass headers name upper
-is_instance headers (Array element) upper = false
 
 -- an entry of the exception table takes an exception that is thrown at this offset (JVMS 2.10, 4.7.3)
 abbrev pub takes : List Header → ℕ → RefValue → Handler → Bool

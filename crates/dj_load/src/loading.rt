@@ -14,7 +14,7 @@ use dj_outer::{Files, LoadFault, Loaded};
 use std::alloc::{AllocError, AllocFailed, Global};
 
 /// The most bytes that a file may have.
-pub const MOST_BYTES: usize = 16_777_216;
+const MOST_BYTES: usize = 16_777_216;
 
 /// The oldest major version that is read, that of Java SE 6.
 const OLDEST: u16 = 50;

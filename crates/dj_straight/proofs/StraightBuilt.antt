@@ -2,6 +2,7 @@
 use Rattle.std.proofs.Common.{◌≡◌, ℕ, ◌+◌, ◌<◌, ◌≤◌, true, false, ltb, leb, List, [], ◌∷◌, ◌++◌, length, Option, Some, None, option_map, refl, sym, ap, ◌∙◌, subst, ⊎_elim, arith, append_assoc, append-nil}
 use Rattle.std.proofs.lemmas.Bool.Decides.{nat_tests}
 use Rattle.std.proofs.lemmas.Bool.{cases_lt}
+use Rattle.std.specs.Option.{option_and_then}
 use Rattle.dj_names.specs.declared.members.Constant.TheVariants as constant
 use Rattle.dj_instructions.specs.declared.kinds.Kind.TheVariants as kind
 use Rattle.dj_instructions.specs.declared.kinds.Calc.{Calc}
@@ -13,7 +14,7 @@ use Rattle.dj_straight.specs.declared.part.Operation.TheVariants as operation
 use Rattle.dj_straight.specs.declared.part.Part.{Part}
 use Rattle.dj_straight.specs.declared.part.Part.TheVariants as part
 use Rattle.dj_straight.specs.Straight.{Formula, Number, Parameter, Calculation, calc_of, postfix, depth, height, UsesParameters, stack_postfix, stack_height, AreFormulas}
-use Rattle.dj_straight.specs.Rebuilding.{operation_of, part_of, instruction_of, pushed, joined, advanced_by, advanced, then_on, built}
+use Rattle.dj_straight.specs.Rebuilding.{operation_of, part_of, instruction_of, pushed, joined, advanced_by, advanced, built}
 
 -- ---- parts
 
@@ -107,11 +108,11 @@ operation_is operation.Sub = refl
 operation_is operation.Mul = refl
 
 module _ (parameters max_stack : ℕ) where
-  pub built-append : (front back : List Instruction) (stack : List Formula) → built parameters max_stack (front ++ back) stack ≡ then_on (built parameters max_stack front stack) (built parameters max_stack back)
+  pub built-append : (front back : List Instruction) (stack : List Formula) → built parameters max_stack (front ++ back) stack ≡ option_and_then (built parameters max_stack back) (built parameters max_stack front stack)
   built-append [] back stack = refl
   built-append (first ∷ front) back stack = go (advanced parameters max_stack first stack) (built-append front back)
     where
-      go : (next : Option (List Formula)) → ((stack : List Formula) → built parameters max_stack (front ++ back) stack ≡ then_on (built parameters max_stack front stack) (built parameters max_stack back)) → then_on next (built parameters max_stack (front ++ back)) ≡ then_on (then_on next (built parameters max_stack front)) (built parameters max_stack back)
+      go : (next : Option (List Formula)) → ((stack : List Formula) → built parameters max_stack (front ++ back) stack ≡ option_and_then (built parameters max_stack back) (built parameters max_stack front stack)) → option_and_then (built parameters max_stack (front ++ back)) next ≡ option_and_then (built parameters max_stack back) (option_and_then (built parameters max_stack front) next)
       go None later = refl
       go (Some next) later = later next
 
@@ -130,12 +131,12 @@ module _ (parameters max_stack : ℕ) where
       let second = built_formula right (left ∷ stack) uses.1 (omega arith) (omega arith) in
       let test : leb (depth (Calculation operation left right)) 64 ≡ true = grind (arith, nat_tests) in
       let ends : built parameters max_stack last (right ∷ left ∷ stack) ≡ Some (Calculation operation left right ∷ stack) = rw (operation_is operation, test) in
-      built-append (postfix left) (postfix right ++ last) stack ∙ ap (λ next. then_on next (built parameters max_stack (postfix right ++ last))) first ∙ built-append (postfix right) last (left ∷ stack) ∙ ap (λ next. then_on next (built parameters max_stack last)) second ∙ ends
+      built-append (postfix left) (postfix right ++ last) stack ∙ ap (λ next. option_and_then (built parameters max_stack (postfix right ++ last)) next) first ∙ built-append (postfix right) last (left ∷ stack) ∙ ap (λ next. option_and_then (built parameters max_stack last) next) second ∙ ends
 
   pub built_stack : (stack : List Formula) → AreFormulas parameters stack → stack_height stack ≤ max_stack → built parameters max_stack (stack_postfix stack) [] ≡ Some stack
   built_stack [] are room = refl
   built_stack (top ∷ below) are room =
-      built-append (stack_postfix below) (postfix top) [] ∙ ap (λ next. then_on next (built parameters max_stack (postfix top))) (built_stack below are.2 (omega arith)) ∙ built_formula top below are.0 are.1 (omega arith)
+      built-append (stack_postfix below) (postfix top) [] ∙ ap (λ next. option_and_then (built parameters max_stack (postfix top)) next) (built_stack below are.2 (omega arith)) ∙ built_formula top below are.0 are.1 (omega arith)
 
   -- ---- what is built is within the limits
 
@@ -209,7 +210,7 @@ module _ (parameters max_stack : ℕ) where
       rw same (record { form = sym (append-nil (stack_postfix stack)); formulas = are; room = room })
   built_within (first ∷ rest) stack next is are room = go (advanced parameters max_stack first stack) refl is (built_within rest)
     where
-      go : (middle : Option (List Formula)) → advanced parameters max_stack first stack ≡ middle → then_on middle (built parameters max_stack rest) ≡ Some next → ((from to : List Formula) → built parameters max_stack rest from ≡ Some to → AreFormulas parameters from → stack_height from ≤ max_stack → IsBuilt from rest to) → IsBuilt stack (first ∷ rest) next
+      go : (middle : Option (List Formula)) → advanced parameters max_stack first stack ≡ middle → option_and_then (built parameters max_stack rest) middle ≡ Some next → ((from to : List Formula) → built parameters max_stack rest from ≡ Some to → AreFormulas parameters from → stack_height from ≤ max_stack → IsBuilt from rest to) → IsBuilt stack (first ∷ rest) next
       go None was e later = absurd (cc)
       go (Some middle) was e later =
           let one = advanced_built first stack middle was are room in

@@ -5,6 +5,7 @@ use Rattle.std.proofs.lemmas.List.{take-append-drop}
 use Rattle.std.specs.List.{All}
 use Rattle.std.proofs.lemmas.List.{map-append}
 use Rattle.std.proofs.lemmas.List.Elements.{All-nil, All-head, All-tail, All-push}
+use Rattle.std.specs.Option.{option_and_then}
 use Rattle.dj_syntax.specs.WellFormed.{IsWellFormedExp}
 use Rattle.dj_instructions.specs.declared.instruction.Instruction as declared
 use Rattle.dj_instructions.specs.Instructions.{Instruction, Instructions, view_instruction, view_instructions}
@@ -14,7 +15,7 @@ use Rattle.dj_straight.specs.declared.straight.Node.{Node}
 use Rattle.dj_straight.specs.declared.straight.Rebuilt.{Rebuilt}
 use Rattle.dj_straight.specs.declared.straight.Rebuilt.TheVariants.{Tree, Breaks}
 use Rattle.dj_straight.specs.Straight.{Formula, postfix, HasStraightOpcode, IsStraightCode, IsBegun, BreaksAt, breaks, ends, IsRebuilt, IfTree}
-use Rattle.dj_straight.specs.Rebuilding.{AreNodes, advanced, then_on, built, WentOn, IsClosed, IsReturn, Builds, Blocks, IsBlockedAt, viewed}
+use Rattle.dj_straight.specs.Rebuilding.{AreNodes, advanced, built, WentOn, IsClosed, IsReturn, Builds, Blocks, IsBlockedAt, viewed}
 use Rattle.dj_straight.proofs.StraightBuilt.{built-append, built_formula, built_stack, built_within}
 
 -- the instructions without their offsets
@@ -56,14 +57,14 @@ module _ (parameters max_stack : ℕ) (bytes : List ℕ) where
       record { opcodes = builds.opcodes; stack = stack; form = sym all.form; formulas = all.formulas; room = all.room }
 
   -- one instruction more
-  ran_more : (before : Instructions) (first : ℕ × Instruction) (stack : List Formula) → built parameters max_stack (listing before) [] ≡ Some stack → built parameters max_stack (listing (before ++ first ∷ [])) [] ≡ then_on (advanced parameters max_stack first.1 stack) (built parameters max_stack [])
+  ran_more : (before : Instructions) (first : ℕ × Instruction) (stack : List Formula) → built parameters max_stack (listing before) [] ≡ Some stack → built parameters max_stack (listing (before ++ first ∷ [])) [] ≡ option_and_then (built parameters max_stack []) (advanced parameters max_stack first.1 stack)
   ran_more before first stack ran =
-      ap (λ list. built parameters max_stack list []) (listing-append before (first ∷ [])) ∙ built-append parameters max_stack (listing before) (first.1 ∷ []) [] ∙ ap (λ next. then_on next (built parameters max_stack (first.1 ∷ []))) ran
+      ap (λ list. built parameters max_stack list []) (listing-append before (first ∷ [])) ∙ built-append parameters max_stack (listing before) (first.1 ∷ []) [] ∙ ap (λ next. option_and_then (built parameters max_stack (first.1 ∷ [])) next) ran
 
   pub builds_more : (before : Instructions) (first : ℕ × Instruction) (stack next : List Formula) → Builds parameters max_stack bytes before stack → HasStraightOpcode bytes first.0 → advanced parameters max_stack first.1 stack ≡ Some next → Builds parameters max_stack bytes (before ++ first ∷ []) next
   builds_more before first stack next builds straight goes = record {
     opcodes = All-push (λ (at : ℕ × Instruction). HasStraightOpcode bytes at.0) before first builds.opcodes straight;
-    ran = ran_more before first stack builds.ran ∙ ap (λ n. then_on n (built parameters max_stack [])) goes;
+    ran = ran_more before first stack builds.ran ∙ ap (λ n. option_and_then (built parameters max_stack []) n) goes;
   }
 
   -- an instruction that the stack doesn't go on with begins no straight method
@@ -72,7 +73,7 @@ module _ (parameters max_stack : ℕ) (bytes : List ℕ) where
       other (one_of_all (λ (at : ℕ × Instruction). HasStraightOpcode bytes at.0) before first [] begun.opcodes)
   not_begun before first stack builds (inr none) begun =
       let ran : built parameters max_stack (listing (before ++ first ∷ [])) [] ≡ Some begun.stack = rw begun.form (built_stack parameters max_stack begun.stack begun.formulas begun.room) in
-      let stopped : built parameters max_stack (listing (before ++ first ∷ [])) [] ≡ None = ran_more before first stack builds.ran ∙ ap (λ n. then_on n (built parameters max_stack [])) none in
+      let stopped : built parameters max_stack (listing (before ++ first ∷ [])) [] ≡ None = ran_more before first stack builds.ran ∙ ap (λ n. option_and_then (built parameters max_stack []) n) none in
       absurd (cc)
 
   -- nor is the whole straight, unless it is an `ireturn` at the end that finds one formula
@@ -87,7 +88,7 @@ module _ (parameters max_stack : ℕ) (bytes : List ℕ) where
             let one : stack ≡ formula ∷ [] = let e : built parameters max_stack (listing before) [] ≡ Some (formula ∷ []) = ap (λ list. built parameters max_stack list []) f ∙ ran in let g = builds.ran in cc in
             unclosed formula one (one_of_all (λ (at : ℕ × Instruction). HasStraightOpcode bytes at.0) before first behind straight.opcodes) r.1 (none_listed behind r.2)
         | inr r ↦
-            let e : built parameters max_stack (postfix formula) [] ≡ None = ap (λ list. built parameters max_stack list []) r.1 ∙ built-append parameters max_stack (listing before) (first.1 ∷ r.0) [] ∙ ap (λ o. then_on o (built parameters max_stack (first.1 ∷ r.0))) builds.ran ∙ ap (λ o. then_on o (built parameters max_stack r.0)) none in
+            let e : built parameters max_stack (postfix formula) [] ≡ None = ap (λ list. built parameters max_stack list []) r.1 ∙ built-append parameters max_stack (listing before) (first.1 ∷ r.0) [] ∙ ap (λ o. option_and_then (built parameters max_stack (first.1 ∷ r.0)) o) builds.ran ∙ ap (λ o. option_and_then (built parameters max_stack r.0) o) none in
             absurd (cc ran)
       ]
     where

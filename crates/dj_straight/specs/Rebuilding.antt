@@ -1,5 +1,6 @@
 -- How the formula of a straight method is rebuilt: its instructions run on a stack of formulas, from the top down.
 use Rattle.std.specs.Prelude.{◌≡◌, ◌≢◌, ◌⊎◌, ℕ, nat_le, nat_lt, Bool, true, false, if◌then◌else◌, List, [], ◌∷◌, ◌++◌, length, map, reverse, Option, Some, None, option_map}
+use Rattle.std.specs.Option.{option_and_then}
 use Rattle.dj_names.specs.declared.members.Constant.TheVariants as constant
 use Rattle.dj_syntax.specs.Trees.{view_exp}
 use Rattle.dj_syntax.specs.WellFormed.{IsWellFormedExp}
@@ -164,15 +165,10 @@ advanced_by parameters max_stack (Some part.Return) stack = None
 abbrev pub advanced : ℕ → ℕ → Instruction → List Formula → Option (List Formula)
 advanced parameters max_stack instruction stack = advanced_by parameters max_stack (part_of instruction) stack
 
--- one step after another
-abbrev pub then_on : Option (List Formula) → (List Formula → Option (List Formula)) → Option (List Formula)
-then_on None next = None
-then_on (Some stack) next = next stack
-
 -- instructions one after another
 abbrev pub built : ℕ → ℕ → List Instruction → List Formula → Option (List Formula)
 built parameters max_stack [] stack = Some stack
-built parameters max_stack (first ∷ rest) stack = then_on (advanced parameters max_stack first stack) (built parameters max_stack rest)
+built parameters max_stack (first ∷ rest) stack = option_and_then (built parameters max_stack rest) (advanced parameters max_stack first stack)
 
 -- ---- what the code tells of them
 

@@ -12,5 +12,4 @@ mod straight_method;
 
 pub use declared::Declared;
 pub use shows::straight_methods_show;
-pub use straight::{Rebuilt, straight_body};
 pub use straight_method::{Judged, judge, returning_body};
