@@ -1,5 +1,5 @@
 """Copies of class files with one method each, whose Code is damaged: bytes and numbers changed, cut out, doubled, swapped."""
-import random, struct
+import struct
 from class_file_format import CLASS, HANDLE, METHOD_TYPE, class_text, lay_out, text
 from code_format import instructions_of, lay_out_code
 

@@ -1,6 +1,6 @@
 """Compares text_check with javac's parser: the trees that it makes of the texts of units.
 
-usage: python3 checks/texts.py PROGRAM [COUNT [SEED]], with the built text_check as PROGRAM, or - for javac and the rules of the text alone.
+usage: python3 checks/texts.py PROGRAM [COUNT [SEED]], with the built text_check as PROGRAM (which isn't written yet), or - for javac and the rules of the text alone.
 COUNT units (20,000) are made by PROGRAM, and as many here by `random_units.py`, whose texts and shapes `unit_texts.py`
 and `unit_shapes.py` write from the rules alone. javac has to take each text and to make a tree of the shape that is told; PROGRAM has to read
 each, as a unit of that shape. The same of texts of which one token is deleted or doubled: where PROGRAM reads one, javac
@@ -46,6 +46,7 @@ Not made, since Java takes no such text: fields of an interface without a value,
 what stands before a dot or a bracket no number of 0 or more, since `5.x` begins with a floating-point literal.
 """
 import collections, pathlib, random, re, subprocess, sys, tempfile
+from asking import ask_each
 from random_units import Maker
 from unit_shapes import shape
 from unit_texts import text
@@ -58,13 +59,6 @@ QUIRKS = [
     (r"illegal (unicode )?escape", r"\\ud[89ab]..\\\\", "a backslash behind a high surrogate (JLS 3.3)"),
     (r"sealed classes are not supported", r"\bsealed ", "a class named sealed, as the type of a member (JLS 3.9)"),
 ]
-
-
-def run(command, lines):
-    given = "".join(line + "\n" for line in lines).encode()
-    answers = subprocess.run(command, input=given, stdout=subprocess.PIPE, check=True).stdout.decode().split("\n")
-    assert len(answers) == len(lines) + 1, (command, len(answers), len(lines))
-    return answers[:-1]
 
 
 def damaged(rng, written):
@@ -93,20 +87,20 @@ class Referee:
 
     def whole(self, who, texts, shapes):
         """Texts of units, with the shapes that they have to have."""
-        for written, wanted, given in zip(texts, shapes, run(self.java, [each.encode().hex() for each in texts])):
+        for written, wanted, given in zip(texts, shapes, ask_each(self.java, [each.encode().hex() for each in texts])):
             self.tally[who] += 1
             if given != wanted:
                 self.differ(who + ", javac", written, wanted, given)
         if self.program:
-            for written, wanted, given in zip(texts, shapes, run([self.program], ["read " + each.encode().hex() for each in texts])):
+            for written, wanted, given in zip(texts, shapes, ask_each([self.program], ["read " + each.encode().hex() for each in texts])):
                 if given != "unit " + wanted:
                     self.differ(who + ", text_check", written, "unit " + wanted, given)
 
     def changed(self, rng, texts):
         """Texts of units with a change: what the program reads, javac takes."""
         texts = [damaged(rng, each) for each in texts]
-        theirs = run(self.java, [each.encode().hex() for each in texts])
-        ours = run([self.program], ["read " + each.encode().hex() for each in texts]) if self.program else ["misread"] * len(texts)
+        theirs = ask_each(self.java, [each.encode().hex() for each in texts])
+        ours = ask_each([self.program], ["read " + each.encode().hex() for each in texts]) if self.program else ["misread"] * len(texts)
         for written, mine, given in zip(texts, ours, theirs):
             self.tally["changed, " + ("refused" if given.startswith("refused") else "taken") + " by javac, " + mine.split()[0]] += 1
             if mine != "misread" and mine != "unit " + given:
@@ -117,7 +111,7 @@ class Referee:
         texts, shapes = [text(unit) for unit in units], [shape(unit) for unit in units]
         self.whole("made here", texts, shapes)
         if self.program:
-            made = [line.split(" ", 1) for line in run([self.program], [f"make {first + number}" for number in range(count)])]
+            made = [line.split(" ", 1) for line in ask_each([self.program], [f"make {first + number}" for number in range(count)])]
             texts += [bytes.fromhex(each).decode() for each, _ in made]
             self.whole("made by the program", texts[count:], [each for _, each in made])
         self.changed(rng, texts)
