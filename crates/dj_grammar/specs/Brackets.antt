@@ -1,4 +1,4 @@
--- Parentheses, brackets and commas of an expression (JLS 15.8.5, 15.9, 15.10, 15.12, 15.13, 15.16).
+-- Parentheses, brackets and commas of an expression (JLS 15.8.5, 15.9, 15.10, 15.12, 15.16).
 use Rattle.std.specs.Prelude.{ℕ, ◌-◌, ◌+◌, Bool, true, false, min, nat_le, if◌then◌else◌, List, [], ◌∷◌, ◌++◌, length, take, Option, Some, None}
 use Rattle.dj_names.specs.Types.{JType, Array}
 use Rattle.dj_syntax.specs.Trees.{Exp, Text, Truth, Null, This, Variable, ClassOf, Field, Static, Element, Call, StaticCall, SuperCall, New, NewArray, Cast, InstanceOf, Negative, Not, Binary, Choice, Assign, exps_of}

@@ -1,4 +1,4 @@
--- What the functions here, and the layer above, promise, in reading order.
+-- How words are read, in reading order. The laws name Readings, Steps and Statements alone.
 pub mod Frames
 pub mod Readings
 pub mod Brackets

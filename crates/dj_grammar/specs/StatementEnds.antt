@@ -1,4 +1,4 @@
--- What a semicolon ends (JLS 14.4, 14.8, 14.14 to 14.18).
+-- What a semicolon ends (JLS 8.8.7.1, 14.4, 14.8, 14.13 to 14.18).
 use Rattle.std.specs.Prelude.{ℕ, Bool, true, false, if◌then◌else◌, List, [], ◌∷◌, Option, Some, None, option_map}
 use Rattle.dj_syntax.specs.Trees.{Exp, Text, Truth, Null, This, Variable, ClassOf, Field, Static, Element, Call, StaticCall, SuperCall, New, NewArray, Cast, InstanceOf, Negative, Not, Binary, Choice, Assign, Exps, exps_of, Stm, Declare, Set, SetField, SetStatic, SetElement, Run, Break, Continue, Return, Throw, Rethrow, Construct, Do}
 use Rattle.dj_syntax.specs.Trees as trees

@@ -1,4 +1,4 @@
-//! What holds of the words of expressions and statements, whatever they are.
+//! What holds of the words of expressions and statements, and of the texts of units, whatever they are.
 
 ghost use Rattle.std.specs.Prelude.{◌≡◌, ◌++◌, ℕ, Bool, true, [], Some, codes};
 ghost use Rattle.dj_syntax.specs.Items.{render};

@@ -1,4 +1,4 @@
--- The plain units: those that the parser knows. An expression is a number, a variable or an operation, a statement a block or a return.
+-- The plain units: those that the parser knows. An expression is an int, a variable or an operation on two operands, a statement a block or a return.
 use Rattle.std.specs.Prelude.{IfSome}
 use Rattle.std.specs.List.{AllByRecursion}
 use Rattle.dj_syntax.specs.Trees.{Exp, Text, Truth, Null, This, Variable, ClassOf, Static, Element, Call, StaticCall, SuperCall, New, NewArray, Cast, InstanceOf, Negative, Not, Binary, Choice, Assign, Stm, Block, Labelled, Declare, Set, SetField, SetStatic, SetElement, Run, If, While, Switch, Break, Continue, Return, Throw, Rethrow, Try, Synchronized, Construct, Do, For, Finally, Stms, Empty, And, FieldText, MethodText, CompilationUnit}

@@ -10,7 +10,8 @@ use Rattle.dj_tokens.specs.Words.{is_digit}
 
 -- ---- numbers
 
--- a number with a digit more, as far as it stays below 2 ^ 64; another character is passed over
+-- a number with a digit more, where the number before is at most a tenth of the greatest long; else the digit is passed
+-- over, as another character is
 abbrev pub digit_more : ℕ → ℕ → ℕ
 digit_more before digit = if is_digit digit && nat_le before 922337203685477580 then before * 10 + (digit - 48) else before
 

@@ -10,7 +10,7 @@ use dj_names::Units;
 use dj_syntax::{Exp, Var, VarKind};
 use std::alloc::{AllocError, Global};
 
-/// The greatest number to which a digit can be added in 64 bits.
+/// A tenth of the greatest long: a digit behind a greater number is passed over.
 const MOST_BEFORE: u64 = 922_337_203_685_477_580;
 
 /// An int or a long literal, without a sign.
@@ -37,7 +37,7 @@ fn is_long(word: &[u8]) -> bool
     false
 }
 
-/// The number that digits spell, as far as 64 bits hold it.
+/// The number that digits spell; digits that would lead far beyond a long are passed over.
 fn number_of(digits: &[u8]) -> u64
     ensures number { result ≡ number_of digits.now }
 {
