@@ -45,32 +45,32 @@ for_value test (Some ended) = for_opened test ended.0 (opened ended.1)
 
 -- a `catch` of a class
 abbrev pub catch_type : Stms → Catches → JType → Var → Option Kind
-catch_type body catches Boolean variable = None
-catch_type body catches Byte variable = None
-catch_type body catches Char variable = None
-catch_type body catches Short variable = None
-catch_type body catches Int variable = None
-catch_type body catches Long variable = None
-catch_type body catches Float variable = None
-catch_type body catches Double variable = None
-catch_type body catches (Class class) variable = Some (InCatch body catches class variable)
-catch_type body catches (Array element) variable = None
+catch_type body clauses Boolean variable = None
+catch_type body clauses Byte variable = None
+catch_type body clauses Char variable = None
+catch_type body clauses Short variable = None
+catch_type body clauses Int variable = None
+catch_type body clauses Long variable = None
+catch_type body clauses Float variable = None
+catch_type body clauses Double variable = None
+catch_type body clauses (Class class) variable = Some (InCatch body clauses class variable)
+catch_type body clauses (Array element) variable = None
 
 -- a `catch`, where a class and a variable stand
 abbrev pub catch_of : Stms → Catches → Reading → Option Kind
-catch_of body catches (Wanted pending) = None
-catch_of body catches (Negation pending) = None
-catch_of body catches (Head pending) = None
-catch_of body catches (Named name pending) = None
-catch_of body catches (Behind name pending) = None
-catch_of body catches (Typed kind pending) = None
-catch_of body catches (Sized kind sizes more pending) = None
-catch_of body catches (Called callee arguments pending) = None
-catch_of body catches (Declared kind variable pending) = catch_type body catches kind variable
-catch_of body catches (Selecting object pending) = None
-catch_of body catches (Stands value pending) = None
-catch_of body catches (Helping pending) = None
-catch_of body catches Lost = None
+catch_of body clauses (Wanted pending) = None
+catch_of body clauses (Negation pending) = None
+catch_of body clauses (Head pending) = None
+catch_of body clauses (Named name pending) = None
+catch_of body clauses (Behind name pending) = None
+catch_of body clauses (Typed kind pending) = None
+catch_of body clauses (Sized kind sizes more pending) = None
+catch_of body clauses (Called callee arguments pending) = None
+catch_of body clauses (Declared kind variable pending) = catch_type body clauses kind variable
+catch_of body clauses (Selecting object pending) = None
+catch_of body clauses (Stands value pending) = None
+catch_of body clauses (Helping pending) = None
+catch_of body clauses Lost = None
 
 -- a `switch` begins with no group
 abbrev pub switch_of : Exp → Kind
@@ -90,7 +90,7 @@ open_brace blocks SwitchOf = opens_or blocks (option_map switch_of (value_in blo
 open_brace blocks CaseOf = ready blocks.outer blocks.list
 open_brace blocks DefaultOf = ready blocks.outer blocks.list
 open_brace blocks TryOf = opens blocks InTry blocks.labels
-open_brace blocks (CatchOf body catches) = opens_or blocks (catch_of body catches blocks.reading)
+open_brace blocks (CatchOf body clauses) = opens_or blocks (catch_of body clauses blocks.reading)
 open_brace blocks (FinallyOf body) = opens blocks (InFinally body) blocks.labels
 open_brace blocks SynchronizedOf = opens_or blocks (option_map InSynchronized (value_in blocks.reading))
 open_brace blocks DoOf = opens blocks InDo blocks.labels
@@ -101,7 +101,7 @@ open_brace blocks (ForStep test) = opens_or blocks (for_value test (ended blocks
 
 -- the groups of a switch, with the one that is begun
 abbrev pub with_group : List Group → List (Option ℤ) → List Stm → List Group
-with_group groups labels body = groups ++ (labels, stms_of body) ∷ []
+with_group cases labels body = cases ++ (labels, stms_of body) ∷ []
 
 -- catch clauses and one more
 abbrev pub with_catch : Catches → Catch → Catches
@@ -114,9 +114,9 @@ ended_kind InBlock body = Some (Block (stms_of body))
 ended_kind (InIf test) body = Some (If test (stms_of body) Empty)
 ended_kind (InElse test first) body = Some (If test first (stms_of body))
 ended_kind (InWhile test) body = Some (While test (stms_of body))
-ended_kind (InSwitch value groups labels) body = Some (Switch value (groups_of (with_group groups labels body)))
+ended_kind (InSwitch value cases labels) body = Some (Switch value (groups_of (with_group cases labels body)))
 ended_kind InTry body = Some (Try (stms_of body) NoCatches)
-ended_kind (InCatch before catches class variable) body = Some (Try before (with_catch catches (class, variable, stms_of body)))
+ended_kind (InCatch before clauses class variable) body = Some (Try before (with_catch clauses (class, variable, stms_of body)))
 ended_kind (InSynchronized monitor) body = Some (Synchronized monitor (stms_of body))
 ended_kind InDo body = None
 ended_kind (InFor test variable step) body = Some (For test variable step (stms_of body))

@@ -21,13 +21,13 @@ reopened_if (SetElement array index value) = None
 reopened_if (Run call) = None
 reopened_if (If test first second) = Some (test, first)
 reopened_if (While test body) = None
-reopened_if (Switch value groups) = None
+reopened_if (Switch value cases) = None
 reopened_if (Break label) = None
 reopened_if (Continue label) = None
 reopened_if (Return value) = None
 reopened_if (Throw value) = None
 reopened_if (Rethrow variable) = None
-reopened_if (Try body catches) = None
+reopened_if (Try body clauses) = None
 reopened_if (Synchronized monitor body) = None
 reopened_if (Construct own arguments) = None
 reopened_if (Do body test) = None
@@ -46,13 +46,13 @@ reopened_try (SetElement array index value) = None
 reopened_try (Run call) = None
 reopened_try (If test first second) = None
 reopened_try (While test body) = None
-reopened_try (Switch value groups) = None
+reopened_try (Switch value cases) = None
 reopened_try (Break label) = None
 reopened_try (Continue label) = None
 reopened_try (Return value) = None
 reopened_try (Throw value) = None
 reopened_try (Rethrow variable) = None
-reopened_try (Try body catches) = Some (body, catches)
+reopened_try (Try body clauses) = Some (body, clauses)
 reopened_try (Synchronized monitor body) = None
 reopened_try (Construct own arguments) = None
 reopened_try (Do body test) = None
@@ -95,10 +95,10 @@ is_none_read list = is_none list.last && are_none list.before
 
 -- a label more: of the group that is begun, where it has no statement, or of the next
 abbrev pub label_switch : Blocks → Frame → List Frame → Option ℤ → Exp → List Group → List (Option ℤ) → Bool → Blocks
-label_switch blocks frame outer label value groups labels true =
-    ready (record { kind = InSwitch value groups (labels ++ label ∷ []); labels = frame.labels; before = frame.before } ∷ outer) no_statements
-label_switch blocks frame outer label value groups labels false =
-    ready (record { kind = InSwitch value (with_group groups labels (flushed blocks.list)) (label ∷ []); labels = frame.labels; before = frame.before } ∷ outer) no_statements
+label_switch blocks frame outer label value cases labels true =
+    ready (record { kind = InSwitch value cases (labels ++ label ∷ []); labels = frame.labels; before = frame.before } ∷ outer) no_statements
+label_switch blocks frame outer label value cases labels false =
+    ready (record { kind = InSwitch value (with_group cases labels (flushed blocks.list)) (label ∷ []); labels = frame.labels; before = frame.before } ∷ outer) no_statements
 
 -- the same, where a switch is open
 abbrev pub label_kind : Blocks → Frame → List Frame → Option ℤ → Kind → Blocks
@@ -106,9 +106,9 @@ label_kind blocks frame outer label InBlock = ready blocks.outer blocks.list
 label_kind blocks frame outer label (InIf test) = ready blocks.outer blocks.list
 label_kind blocks frame outer label (InElse test first) = ready blocks.outer blocks.list
 label_kind blocks frame outer label (InWhile test) = ready blocks.outer blocks.list
-label_kind blocks frame outer label (InSwitch value groups labels) = label_switch blocks frame outer label value groups labels (is_none_read blocks.list)
+label_kind blocks frame outer label (InSwitch value cases labels) = label_switch blocks frame outer label value cases labels (is_none_read blocks.list)
 label_kind blocks frame outer label InTry = ready blocks.outer blocks.list
-label_kind blocks frame outer label (InCatch body catches class variable) = ready blocks.outer blocks.list
+label_kind blocks frame outer label (InCatch body clauses class variable) = ready blocks.outer blocks.list
 label_kind blocks frame outer label (InSynchronized monitor) = ready blocks.outer blocks.list
 label_kind blocks frame outer label InDo = ready blocks.outer blocks.list
 label_kind blocks frame outer label (InFor test variable step) = ready blocks.outer blocks.list
