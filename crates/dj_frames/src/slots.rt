@@ -96,7 +96,7 @@ impl Slots {
     }
 
     /// Puts tags behind the others; an error says that memory is wanting, or that there would be more
-    /// tags than a `usize` counts.
+    /// than 2^63 tags.
     pub fn append(&mut self, alloc: Global, tags: &[Tag]) -> Result<(), AllocError>
         ensures ok { OnOk result (self.new ≡ self.old ++ tags.now) }
         ensures err { OnErr result (self.new ≡ self.old) }
@@ -110,8 +110,8 @@ impl Slots {
         Ok(())
     }
 
-    /// Puts a tag behind the others; an error says that memory is wanting, or that there are as many
-    /// tags as a `usize` counts.
+    /// Puts a tag behind the others; an error says that memory is wanting, or that there are 2^63
+    /// tags.
     pub fn push(&mut self, alloc: Global, tag: Tag) -> Result<(), AllocError>
         ensures ok { OnOk result (self.new ≡ self.old ++ tag ∷ []) }
         ensures err { OnErr result (self.new ≡ self.old) }

@@ -42,7 +42,7 @@ Meaning A = State Store → Outcome Store A
 abbrev pub pure : {A : Type 0} → A → Meaning A
 pure result state = Is result state
 
--- what the rules of the language rule out
+-- what the rules of the language rule out, and by now what has no meaning yet
 abbrev pub stuck : {A : Type 0} → Meaning A
 stuck state = Stops Stuck state
 

@@ -6,7 +6,7 @@ use dj_outer::{Failed, Sink};
 use std::alloc::Global;
 
 /// What text is printed to. Once it couldn't take a piece it takes nothing more, and whoever made it
-/// asks it in the end. `prints` says what it took of a text.
+/// asks it in the end whether it took all. `prints` says what it took of a text.
 pub trait Out {
     ghost prints: { Self → Self → List ℕ → Type 0 };
 
