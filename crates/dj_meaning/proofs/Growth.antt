@@ -85,7 +85,7 @@ mutual
   rises-run context scope bound (trees.Run call) = rises-stops Stuck
   rises-run context scope bound (trees.If test first second) = rises-stops Stuck
   rises-run context scope bound (trees.While test body) = rises-stops Stuck
-  rises-run context scope bound (trees.Switch switched groups) = rises-stops Stuck
+  rises-run context scope bound (trees.Switch switched cases) = rises-stops Stuck
   rises-run context scope bound (trees.Break label) = rises-stops Stuck
   rises-run context scope bound (trees.Continue label) = rises-stops Stuck
   rises-run context scope bound (trees.Throw thrown) = rises-stops Stuck
@@ -131,7 +131,7 @@ mutual
   below-run context scope bound longer less (trees.Run call) state = refl
   below-run context scope bound longer less (trees.If test first second) state = refl
   below-run context scope bound longer less (trees.While test body) state = refl
-  below-run context scope bound longer less (trees.Switch switched groups) state = refl
+  below-run context scope bound longer less (trees.Switch switched cases) state = refl
   below-run context scope bound longer less (trees.Break label) state = refl
   below-run context scope bound longer less (trees.Continue label) state = refl
   below-run context scope bound longer less (trees.Throw thrown) state = refl

@@ -125,7 +125,7 @@ abbrev mutual
   run context scope bound (trees.Run call) = stuck
   run context scope bound (trees.If test first second) = stuck
   run context scope bound (trees.While test body) = stuck
-  run context scope bound (trees.Switch switched groups) = stuck
+  run context scope bound (trees.Switch switched cases) = stuck
   run context scope bound (trees.Break label) = stuck
   run context scope bound (trees.Continue label) = stuck
   run context scope bound (trees.Throw thrown) = stuck
