@@ -1,7 +1,7 @@
 """Random units of every kind of expression, statement and member, as the trees of `unit_texts.py`."""
 
 OPERATORS = "* / % + - << >> >>> < <= > >= == != & ^ | && ||".split()
-IDENTIFIERS = ["a", "b", "C", "D7", "x1", "f", "m", "_", "$", "aB_$9", "p", "v", "l0", "T", "t", "var", "record", "yield", "sealed", "permits", "module", "get", "length"]
+IDENTIFIERS = ["a", "b", "C", "Dd", "x1", "f", "m", "_", "$", "aB_$9", "p", "v", "l0", "T", "t", "var", "record", "yield", "sealed", "permits", "module", "get", "length"]
 VARIABLE_LIKE = ["p0", "v1", "e2", "s3", "p00"]
 FIELD_BITS, METHOD_BITS = [0x0001, 0x0002, 0x0004, 0x0008, 0x0080, 0x0040], [0x0001, 0x0002, 0x0004, 0x0400, 0x0008, 0x0010, 0x0020, 0x0100]
 INTS = [0, 1, 5, -1, -5, 127, -32_768, 2**31 - 1, -2**31]
