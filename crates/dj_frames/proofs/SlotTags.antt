@@ -108,6 +108,12 @@ take_first count len at le = sym (take-map-range_with_len at 0 count len le)
 pub take_whole : (count len : ℕ) (at : ℕ → Tag) → count ≤ len → first_tags count at ≡ take len (first_tags count at)
 take_whole count len at le = let many = length_first count at in sym (take_all len (first_tags count at) (omega arith))
 
+-- the tags of a list
+pub first_are : (tags : List Tag) (at : ℕ → Tag) → ((s : ℕ) → s < length tags → at s ≡ listed tags Top s) → first_tags (length tags) at ≡ tags
+first_are tags at same =
+    let long = length_first (length tags) at in
+    ext_get_or Top (first_tags (length tags) at) tags (omega arith) (λ s lt. get_first (length tags) s at (omega arith) ∙ same s (omega arith))
+
 -- one more of the first slots
 pub first_more : (count : ℕ) (at : ℕ → Tag) (made now : List Tag) (tag : Tag) → made ≡ first_tags count at → now ≡ made ++ tag ∷ [] → tag ≡ at count → now ≡ first_tags (count + 1) at
 first_more count at made now tag made_is pushed tag_is =

@@ -176,7 +176,7 @@ table_stops pool instructions values bytes (stop.Fault fault) halts = let is = f
 -- ---- the tables of a method
 
 -- no frame is listed yet
-pub none_listed : (pool : List Entry) (instructions : Instructions) (entry : List declared.Tag) (frames : List (ℕ × code_frame.Frame)) → frames ≡ [] → IsListedTo pool instructions (view_tags entry) [] (record { frames = frames; locals = entry; least = 0 })
+pub none_listed : (pool : List Entry) (instructions : Instructions) (entry : List declared.Tag) (frames : List (ℕ × code_frame.Frame)) → frames ≡ [] → IsListedTo pool instructions (view_tags entry) [] (record { frames = frames; locals = entry; least = 0; near = 0 })
 none_listed pool instructions entry frames none = record { items = []; meant = tt; frames = ap view_frames none; locals = refl; least = refl; low = omega arith }
 
 -- the frames of the one table

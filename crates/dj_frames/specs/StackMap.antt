@@ -59,9 +59,11 @@ form_of kind =
     else (if nat_le kind 254 then far change.Appends (count.Given (kind - 251)) (count.Given 0)
     else far change.Replaces count.Counted count.Counted)))))
 
+-- a byte of a frame
 abbrev pub u1 : Layout bad.BadKind ℕ
 u1 = number 1 kind.Frame
 
+-- a number of two bytes of a frame
 abbrev pub u2 : Layout bad.BadKind ℕ
 u2 = number 2 kind.Frame
 

@@ -7,6 +7,7 @@ ghost use Rattle.dj_frames.specs.Frames.{view_tag, view_tags, view_frame, tag_of
 
 use crate::frame::Frame;
 use crate::locals::Locals;
+use crate::slots::Slots;
 use crate::tag::Tag;
 use dj_class::Method;
 use dj_names::{ClassName, Descriptor, Items, JType, is_word};
@@ -86,6 +87,6 @@ pub fn entry_frame(alloc: Global, class: &ClassName, method: &Method) -> Result<
     ensures entry { IfOk result (λ frame. view_frame frame ≡ entry_frame class.now (view_method method.now)) }
 {
     let locals = entry_locals(alloc, class, method)?;
-    let frame = locals.frame(alloc, &[])?;
+    let frame = locals.frame(alloc, Slots::new())?;
     Ok(frame)
 }

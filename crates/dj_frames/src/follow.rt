@@ -16,13 +16,14 @@ use dj_instructions::Instruction;
 use dj_names::Items;
 use std::alloc::{AllocError, Global};
 
-/// The frames so far by their pcs, the locals of the last one, and where a frame with delta 0 is
-/// behind it.
+/// The frames so far by their pcs, the locals of the last one, where a frame with delta 0 is behind
+/// it, and the place of the first instruction that isn't before that.
 #[derive(Drop)]
 pub struct Listed {
     pub frames: Items<(u32, Frame)>,
     pub locals: Locals,
     pub least: u64,
+    pub near: usize,
 }
 
 /// The locals of a frame, by those of the frame before and those that are written; None where fewer
@@ -67,19 +68,21 @@ pub fn follow(
         mut frames,
         locals,
         least,
+        near,
     } = listed;
-    let Some(pc) = start_at(instructions, least + u64::from(written.delta)) else {
+    let Some((place, pc)) = start_at(instructions, near, least + u64::from(written.delta)) else {
         return Ok(None);
     };
     let change = form_of(written.kind).change;
     let Some(locals) = changed(alloc, locals, change, written.locals)? else {
         return Ok(None);
     };
-    let frame = locals.frame(alloc, written.stack.as_slice())?;
+    let frame = locals.frame(alloc, written.stack)?;
     frames.push((pc, frame))?;
     Ok(Some(Listed {
         frames,
         locals,
         least: u64::from(pc) + 1,
+        near: place + 1,
     }))
 }

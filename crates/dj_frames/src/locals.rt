@@ -72,6 +72,18 @@ fn is_narrow(values: &[Tag]) -> bool
     true
 }
 
+/// The slots that values take, as a list that can be shared.
+fn slots_of(alloc: Global, values: &[Tag]) -> Result<Slots, AllocError>
+    ensures spread { IfOk result (λ slots. view_tags slots ≡ flat_map slots_of (view_tags values.now)) }
+{
+    if is_narrow(values) {
+        return Slots::from_slice(alloc, values);
+    }
+    let spread = spread(alloc, values)?;
+    let slots = Slots::from_items(alloc, spread)?;
+    Ok(slots)
+}
+
 /// Puts values behind others, over the slots that they take.
 fn push_values(alloc: Global, slots: &mut Slots, values: &[Tag]) -> Result<(), AllocError>
     ensures ok { OnOk result (view_tags slots.new ≡ view_tags slots.old ++ flat_map slots_of (view_tags values.now)) }
@@ -112,22 +124,12 @@ fn unborn_before(unborn: Option<usize>, count: usize) -> Option<usize>
     }
 }
 
-/// Tags as a list that can be shared.
-pub fn slots_from(alloc: Global, tags: &[Tag]) -> Result<Slots, AllocError>
-    ensures same { IfOk result (λ slots. slots ≡ tags.now) }
-{
-    let mut slots = Slots::new();
-    slots.append(alloc, tags)?;
-    Ok(slots)
-}
-
 impl Locals {
     /// Locals with these values.
     pub fn from_values(alloc: Global, values: Items<Tag>) -> Result<Locals, AllocError>
         ensures same { IfOk result (λ now. now ≡ values) }
     {
-        let mut slots = Slots::new();
-        push_values(alloc, &mut slots, values.as_slice())?;
+        let slots = slots_of(alloc, values.as_slice())?;
         let unborn = first_unborn(values.as_slice(), 0, None);
         Ok(Locals {
             values,
@@ -189,11 +191,10 @@ impl Locals {
     }
 
     /// The frame with these locals and this stack.
-    pub fn frame(&self, alloc: Global, stack: &[Tag]) -> Result<Frame, AllocError>
-        ensures frame { IfOk result (λ frame. view_frame frame ≡ frame_of (view_tags self.now) (view_tags stack.now)) }
+    pub fn frame(&self, alloc: Global, stack: Slots) -> Result<Frame, AllocError>
+        ensures frame { IfOk result (λ frame. view_frame frame ≡ frame_of (view_tags self.now) (view_tags stack)) }
     {
         let locals = self.slots.copy(alloc)?;
-        let stack = slots_from(alloc, stack)?;
         Ok(Frame {
             locals,
             stack,

@@ -5,7 +5,8 @@ ghost use Rattle.std.specs.Option.{option_copied};
 ghost use Rattle.dj_frames.specs.SlotTree.{tag_in};
 
 use crate::tag::Tag;
-use crate::tree::{Tree, deeper, get, put, share};
+use crate::tree::{LEAF_DEPTH, Tree, deeper, get, leaf, put, share};
+use dj_names::Items;
 use std::alloc::{AllocError, Global};
 use std::marker::Model;
 use std::slice;
@@ -65,6 +66,29 @@ fn with_room(
     Err(AllocError)
 }
 
+/// Tags equal to these.
+fn copy_tags(alloc: Global, tags: &[Tag]) -> Result<Items<Tag>, AllocError>
+    ensures equal { IfOk result (λ copy. copy ≡ tags.now) }
+{
+    let mut copy = Items::from_vec(Vec::with_capacity(alloc, tags.len())?);
+    for tag in tags {
+        copy.push(tag.copy(alloc)?)?;
+    }
+    Ok(copy)
+}
+
+/// One tag.
+fn one(alloc: Global, tag: &Tag) -> Result<Slots, AllocError>
+    ensures one { IfOk result (λ slots. slots ≡ tag.now ∷ []) }
+{
+    let tag = tag.copy(alloc)?;
+    Ok(Slots {
+        depth: 0,
+        count: 1,
+        tree: Tree::All(tag),
+    })
+}
+
 impl Slots {
     /// No tags.
     pub fn new() -> Slots
@@ -75,6 +99,41 @@ impl Slots {
             count: 0,
             tree: Tree::All(Tag::Top),
         }
+    }
+
+    /// The tags of a list, which becomes a part of a tree.
+    pub fn from_items(alloc: Global, tags: Items<Tag>) -> Result<Slots, AllocError>
+        ensures same { IfOk result (λ slots. slots ≡ tags) }
+    {
+        if let [tag] = tags.as_slice() {
+            return one(alloc, tag);
+        }
+        let count = tags.len();
+        if count == 0 {
+            return Ok(Slots::new());
+        }
+        if count <= 1 << LEAF_DEPTH {
+            return Ok(Slots {
+                depth: LEAF_DEPTH,
+                count,
+                tree: leaf(alloc, tags)?,
+            });
+        }
+        let mut slots = Slots::new();
+        slots.append(alloc, tags.as_slice())?;
+        Ok(slots)
+    }
+
+    /// The tags of a slice.
+    pub fn from_slice(alloc: Global, tags: &[Tag]) -> Result<Slots, AllocError>
+        ensures same { IfOk result (λ slots. slots ≡ tags.now) }
+    {
+        if let [tag] = tags {
+            return one(alloc, tag);
+        }
+        let tags = copy_tags(alloc, tags)?;
+        let slots = Slots::from_items(alloc, tags)?;
+        Ok(slots)
     }
 
     /// How many tags there are.

@@ -88,6 +88,7 @@ fn frame_list<'a>(
         frames: Items::new(alloc),
         locals: entry,
         least: 0,
+        near: 0,
     };
     let mut rest = bytes;
     for _ in 0..count {

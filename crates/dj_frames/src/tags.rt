@@ -12,6 +12,7 @@ ghost use Rattle.dj_frames.specs.StackMap.{u1, u2, raw_tag, plain_tag, IsTagOf, 
 
 use crate::form::Count;
 use crate::places::is_new_at;
+use crate::slots::Slots;
 use crate::tag::Tag;
 use dj_instructions::{BadKind, Instruction, type_of_class};
 use dj_layout::{Stop, fault_at, u8_at, u16_at};
@@ -123,7 +124,7 @@ fn tag_list<'a>(
     requires rising { IsRising (view_instructions instructions.now) }
     ensures reads { ReadsAs (times count (tag pool.now (view_instructions instructions.now))) (AllZip (IsTagOf pool.now (view_instructions instructions.now))) (λ x. (view_tags x.0, x.1.now)) end bytes.now result }
 {
-    let mut found = Items::new(alloc);
+    let mut found = Items::from_vec(Vec::with_capacity(alloc, usize::from(count))?);
     let mut rest = bytes;
     for _ in 0..count {
         let (tag, after) = tag_at(alloc, pool, instructions, rest, end)?;
@@ -153,4 +154,21 @@ pub fn tags_at<'a>(
             Ok((tags, rest))
         }
     }
+}
+
+/// As many verification types as are counted, as a list that can be shared.
+pub fn slots_at<'a>(
+    alloc: Global,
+    pool: &Pool,
+    instructions: &[(u32, Instruction)],
+    count: Count,
+    bytes: &'a [u8],
+    end: usize,
+) -> Result<(Slots, &'a [u8]), Stop<BadKind>>
+    requires rising { IsRising (view_instructions instructions.now) }
+    ensures reads { ReadsAs (many count (tag pool.now (view_instructions instructions.now))) (AllZip (IsTagOf pool.now (view_instructions instructions.now))) (λ x. (view_tags x.0, x.1.now)) end bytes.now result }
+{
+    let (tags, rest) = tags_at(alloc, pool, instructions, count, bytes, end)?;
+    let slots = Slots::from_items(alloc, tags)?;
+    Ok((slots, rest))
 }

@@ -2,6 +2,7 @@
 
 ghost use Rattle.std.specs.Prelude.{◌≡◌, ◌<◌, ◌^◌, ◌≤◌, ◌+◌, ◌-◌, suc, ℕ, length, IfOk, IfSome};
 ghost use Rattle.dj_frames.specs.SlotTree.{listed, joined, tag_in, over, first_tags};
+ghost use Rattle.dj_frames.specs.declared.tag.Tag.TheVariants.{Top};
 
 use crate::tag::Tag;
 use dj_names::{Items, Shared};
@@ -9,7 +10,7 @@ use std::alloc::{AllocError, Global};
 use std::rc::Rc;
 
 /// A tree of this depth or less is one list.
-const LEAF_DEPTH: u32 = 5;
+pub const LEAF_DEPTH: u32 = 5;
 
 /// The tags of the first slots, and that of each other one.
 #[derive(Drop)]
@@ -27,6 +28,15 @@ pub enum Tree {
     Leaf(Shared<Run>),
     /// The lower and the upper half of the slots.
     Fork(Rc<Tree>, Rc<Tree>),
+}
+
+/// A tree of these tags, and of Top behind them.
+pub fn leaf(alloc: Global, tags: Items<Tag>) -> Result<Tree, AllocError>
+    ensures tags { (depth slot : ℕ) → IfOk result (λ made. tag_in depth made slot ≡ listed tags Top slot) }
+{
+    let rest = Tag::Top;
+    let run = Shared::new(alloc, Run { tags, rest })?;
+    Ok(Tree::Leaf(run))
 }
 
 /// The same tags, with all that is below the root shared.

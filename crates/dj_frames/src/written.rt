@@ -9,8 +9,9 @@ ghost use Rattle.dj_frames.specs.StackMap.{u1, is_kind, delta, tag, frame_with, 
 ghost use Rattle.dj_frames.specs.Reading.{view_written};
 
 use crate::form::form_of;
+use crate::slots::Slots;
 use crate::tag::Tag;
-use crate::tags::tags_at;
+use crate::tags::{slots_at, tags_at};
 use dj_instructions::{BadKind, Instruction};
 use dj_layout::{Stop, fault_at, u8_at, u16_at};
 use dj_names::Items;
@@ -24,7 +25,7 @@ pub struct Written {
     pub kind: u8,
     pub delta: u16,
     pub locals: Items<Tag>,
-    pub stack: Items<Tag>,
+    pub stack: Slots,
 }
 
 /// The kind of a frame.
@@ -63,7 +64,7 @@ pub fn written_at<'a>(
     let form = form_of(kind);
     let (delta, rest) = delta_at(form.delta, rest, end)?;
     let (locals, rest) = tags_at(alloc, pool, instructions, form.locals, rest, end)?;
-    let (stack, rest) = tags_at(alloc, pool, instructions, form.stack, rest, end)?;
+    let (stack, rest) = slots_at(alloc, pool, instructions, form.stack, rest, end)?;
     let written = Written {
         kind,
         delta,

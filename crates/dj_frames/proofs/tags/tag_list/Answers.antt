@@ -10,7 +10,7 @@ use Rattle.dj_frames.specs.StackMap.{IsTagOf, tag}
 use Rattle.dj_frames.proofs.tags.tag_list.Goals as goal
 
 pub loop-init : goal.loop-init
-loop-init c = let i = view_instructions c.args.instructions.now in rw c.new-found.ensures (none_as (tag c.args.pool.now i) (IsTagOf c.args.pool.now i) c.args.bytes.now)
+loop-init c = let i = view_instructions c.args.instructions.now in rw (c.from_vec-found.ensures, c.in_ok-with_capacity.ensures.items) (none_as (tag c.args.pool.now i) (IsTagOf c.args.pool.now i) c.args.bytes.now)
 
 pub loop-preserved : goal.loop-preserved
 loop-preserved c =
@@ -21,5 +21,5 @@ loop-preserved c =
 pub returns-in_err-tag : goal.returns-in_err-tag
 returns-in_err-tag c =
     let i = view_instructions c.args.instructions.now in
-    let p = err_from_is_err_and c.from_residual.result c.from_residual.ensures.1 in
+    let p = err_from_is_err_and c.from_residual-in_err-tag.result c.from_residual-in_err-tag.ensures.1 in
     rw (p.1, p.2) record { reads = as_stop (tag c.args.pool.now i) (AllZip (IsTagOf c.args.pool.now i)) c.loop.counter c.args.count c.args.end c.args.bytes.now c.loop.rest.now (view_tags c.loop.found) c.in_err-tag.field-0.0 c.loop-test.true c.loop.invariant c.in_err-tag.ensures.reads }

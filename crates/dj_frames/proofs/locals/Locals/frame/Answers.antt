@@ -5,4 +5,4 @@ use Rattle.dj_frames.proofs.locals.Locals.frame.Goals as goal
 pub returns : goal.returns
 returns c =
     let i = c.self.inside in
-    record { frame = rw (← c.self.view_is) (frame_is i.values i.slots c.args.stack.now i.unborn c.self.invariant.spread c.self.invariant.first _ (rw (c.in_ok-locals.ensures.equal, c.in_ok-stack.ensures.same, c.is_some.ensures) refl)) }
+    record { frame = rw (← c.self.view_is) (frame_is i.values i.slots c.args.stack i.unborn c.self.invariant.spread c.self.invariant.first _ (rw (c.in_ok-locals.ensures.equal, c.is_some.ensures) refl)) }
