@@ -8,14 +8,14 @@ use Rattle.dj_headers.specs.Table.{IsParent, IsAbove, bare}
 
 -- ---- one more element
 
-Any-before : {A : Type 0} (P : A → Type 0) (xs : List A) (y : A) → Any P xs → Any P (xs ++ y ∷ [])
+pub Any-before : {A : Type 0} (P : A → Type 0) (xs : List A) (y : A) → Any P xs → Any P (xs ++ y ∷ [])
 Any-before P xs y (k, x, within, is, holds) =
     (k, x, omega (arith, length_push xs y), get_or_append_left xs (y ∷ []) x k within ∙ is, holds)
 
 Any-shift : {A : Type 0} (P : A → Type 0) (y : A) (xs : List A) → Any P xs → Any P (y ∷ xs)
 Any-shift P y xs (k, x, within, is, holds) = (suc k, x, omega arith, is, holds)
 
-Any-push_cases : {A : Type 0} (P : A → Type 0) (xs : List A) (y : A) → Any P (xs ++ y ∷ []) → Any P xs ⊎ P y
+pub Any-push_cases : {A : Type 0} (P : A → Type 0) (xs : List A) (y : A) → Any P (xs ++ y ∷ []) → Any P xs ⊎ P y
 Any-push_cases P [] y (zero, x, within, is, holds) = inr (subst P (sym is) holds)
 Any-push_cases P [] y (suc k, x, within, is, holds) = absurd (omega arith)
 Any-push_cases P (z ∷ xs) y (zero, x, within, is, holds) = inl (zero, x, omega arith, is, holds)
@@ -30,7 +30,7 @@ Implements-own headers x = record { path = []; is_path = refl }
 Implements-step : (headers : List Header) (x y z : Name) → HasParent headers x y → Implements headers y z → Implements headers x z
 Implements-step headers x y z step rest = record { path = y ∷ rest.path; is_path = (step, rest.is_path) }
 
-join_paths : (headers : List Header) (x y z : Name) (path : List Name) → IsPath (HasParent headers) x path y → Implements headers y z → Implements headers x z
+pub join_paths : (headers : List Header) (x y z : Name) (path : List Name) → IsPath (HasParent headers) x path y → Implements headers y z → Implements headers x z
 join_paths headers x y z [] same rest = subst (λ n. Implements headers n z) (sym same) rest
 join_paths headers x y z (n ∷ path) steps rest = Implements-step headers x n z steps.0 (join_paths headers n y z path steps.1 rest)
 
@@ -50,15 +50,15 @@ word_alone headers word units class r none same is = (
 
 -- ---- one more header: the steps from its name to its parents
 
-HasParent-before : (headers : List Header) (header : Header) (x y : Name) → HasParent headers x y → HasParent (headers ++ header ∷ []) x y
+pub HasParent-before : (headers : List Header) (header : Header) (x y : Name) → HasParent headers x y → HasParent (headers ++ header ∷ []) x y
 HasParent-before headers header x y (inl up) = inl (Any-before (λ (h : Header). (h.name ≡ x) × (h.superclass ≡ Some y)) headers header up)
 HasParent-before headers header x y (inr up) = inr (Any-before (λ (h : Header). (h.name ≡ x) × Contains h.interfaces y) headers header up)
 
-HasParent-last : (headers : List Header) (header : Header) (y : Name) → IsParent header.superclass header.interfaces y → HasParent (headers ++ header ∷ []) header.name y
+pub HasParent-last : (headers : List Header) (header : Header) (y : Name) → IsParent header.superclass header.interfaces y → HasParent (headers ++ header ∷ []) header.name y
 HasParent-last headers header y (inl up) = inl (Any-push (λ (h : Header). (h.name ≡ header.name) × (h.superclass ≡ Some y)) headers header (refl, up))
 HasParent-last headers header y (inr up) = inr (Any-push (λ (h : Header). (h.name ≡ header.name) × Contains h.interfaces y) headers header (refl, up))
 
-HasParent-cases : (headers : List Header) (header : Header) (x y : Name) → HasParent (headers ++ header ∷ []) x y → HasParent headers x y ⊎ ((header.name ≡ x) × IsParent header.superclass header.interfaces y)
+pub HasParent-cases : (headers : List Header) (header : Header) (x y : Name) → HasParent (headers ++ header ∷ []) x y → HasParent headers x y ⊎ ((header.name ≡ x) × IsParent header.superclass header.interfaces y)
 HasParent-cases headers header x y (inl up) =
     elim (Any-push_cases (λ (h : Header). (h.name ≡ x) × (h.superclass ≡ Some y)) headers header up) [ inl before ↦ inl (inl before) | inr last ↦ inr (last.0, inl last.1) ]
 HasParent-cases headers header x y (inr up) =

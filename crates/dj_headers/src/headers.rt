@@ -1,7 +1,7 @@
 //! Headers of classes, and what stands above what among them.
 
-ghost use Rattle.std.specs.Prelude.{◌≡◌, ◌↔◌, ◌<◌, [], ◌∷◌, ◌++◌, Some, IsTrue, IfOk, IfSome, OnOk, OnErr, MatchOption, Contains, slice_get, length, codes};
-ghost use Rattle.dj_names.specs.Headers.{names, IsInterface, IsSubclass, Implements};
+ghost use Rattle.std.specs.Prelude.{◌≡◌, ◌↔◌, ◌<◌, [], ◌∷◌, ◌++◌, Some, IsTrue, IfOk, IfSome, IfNone, OnOk, OnErr, MatchOption, Contains, slice_get, length, codes};
+ghost use Rattle.dj_names.specs.Headers.{names, HasDistinctNames, IsInterface, IsSubclass, Implements};
 ghost use Rattle.dj_names.specs.Assignable.{object_name};
 ghost use Rattle.dj_headers.specs.Table.{HasPlaces};
 
@@ -49,6 +49,7 @@ impl Headers {
     /// The headers in the order in which they were added.
     pub fn as_slice(&self) -> &[Header]
         ensures headers { result.now ≡ self.now }
+        ensures distinct { HasDistinctNames self.now }
     {
         self.headers.as_slice()
     }
@@ -127,6 +128,17 @@ impl Headers {
         match &self.tables.roots {
             Some(roots) => self.implements(class, &roots.object),
             None => is_word(class.as_slice(), "java/lang/Object"),
+        }
+    }
+
+    /// The name of java/lang/Object, once there is a header.
+    pub fn object(&self) -> Option<&ClassName>
+        ensures object { IfSome result (λ name. name.now ≡ object_name) }
+        ensures none { IfNone result (self.now ≡ []) }
+    {
+        match &self.tables.roots {
+            Some(roots) => Some(&roots.object),
+            None => None,
         }
     }
 

@@ -15,3 +15,4 @@ pub use assignable::{
     is_above_arrays, is_assignable, is_class_assignable, is_reference, is_subtype,
 };
 pub use headers::Headers;
+pub use roots::class_of;

@@ -15,7 +15,7 @@ pub struct Roots {
 }
 
 /// The class whose name has the bytes of this text as its units.
-fn class_of(alloc: Global, text: &str) -> Result<ClassName, AllocError>
+pub fn class_of(alloc: Global, text: &str) -> Result<ClassName, AllocError>
     ensures name { IfOk result (λ name. name ≡ text.now) }
 {
     let mut units = Vec::new(alloc);
