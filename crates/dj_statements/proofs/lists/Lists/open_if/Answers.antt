@@ -1,0 +1,10 @@
+use Rattle.std.proofs.Common.{sym}
+use Rattle.std.specs.Prelude.{reverse}
+use Rattle.std.proofs.lemmas.Result.{IfOk-weaker}
+use Rattle.dj_statements.proofs.lists.Lists.open_if.Goals as goal
+
+pub returns-in-Some : goal.returns-in-Some
+returns-in-Some c =
+    record {
+      opened = rw (sym c.in_ok-test.ensures.value, c.in-Some.is) (IfOk-weaker c.open_kind.result _ _ (λ next h clause before. h clause (reverse c.args.labels) before) c.open_kind.ensures.opened);
+    }

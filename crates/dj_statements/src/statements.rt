@@ -1,0 +1,178 @@
+//! Statements read a word at a time (JLS 14). What no statement has is read somehow, since the text of
+//! what was read is compared afterwards.
+
+ghost use Rattle.std.specs.Prelude.{◌≡◌, IfOk, map};
+ghost use Rattle.dj_syntax.specs.Trees.{view_stm};
+ghost use Rattle.dj_statements.specs.OpenViews.{view_blocks, view_body, view_clause};
+ghost use Rattle.dj_grammar.specs.Open.{flushed};
+ghost use Rattle.dj_grammar.specs.Statements.{colon_of, ends_body, no_blocks, read_more, read_statements};
+
+use crate::frames::Clause;
+use crate::lists::{Lists, Place, ready};
+use dj_expressions::Reading;
+use dj_names::Items;
+use dj_syntax::Stm;
+use dj_tokens::{Reader, Token, is_word, token_of};
+use std::alloc::{AllocError, Global};
+
+/// The statements up to the brace that ends a body, behind which the reader goes on.
+pub fn read_statements(alloc: Global, reader: &mut Reader) -> Result<Items<Stm>, AllocError>
+    ensures read { IfOk result (λ list. (map view_stm list, reader.new) ≡ read_statements no_blocks reader.old) }
+{
+    let mut body = Body::new(alloc)?;
+    while !reader.is_at_end() {
+        let word = reader.take();
+        if body.is_ended_by(word) {
+            let list = body.into_statements(alloc)?;
+            return Ok(list);
+        }
+        let more = body.read_more(alloc, word)?;
+        body = more;
+    }
+    body.into_statements(alloc)
+}
+
+/// How far a body is read.
+#[derive(Drop)]
+struct Body {
+    lists: Lists,
+    place: Place,
+}
+
+impl Body {
+    /// Nothing of a body is read.
+    fn new(alloc: Global) -> Result<Body, AllocError>
+        ensures none { IfOk result (λ body. view_body body ≡ no_blocks) }
+    {
+        let place = ready(alloc)?;
+        Ok(Body {
+            lists: Lists::new(alloc),
+            place,
+        })
+    }
+
+    /// Whether the word ends the body: a brace where none is open.
+    fn is_ended_by(&self, word: &[u8]) -> bool
+        ensures ends { result ≡ ends_body (view_body self.now).outer word.now }
+    {
+        self.lists.outer.is_empty() && is_word(word, b"}")
+    }
+
+    /// A word more of a body.
+    fn read_more(self, alloc: Global, word: &[u8]) -> Result<Body, AllocError>
+        ensures read { IfOk result (λ body. view_body body ≡ read_more (view_body self) word.now) }
+    {
+        let Body { mut lists, place } = self;
+        match lists.read_more(alloc, place, word) {
+            Ok(place) => Ok(Body { lists, place }),
+            Err(error) => {
+                drop(lists);
+                Err(error)
+            }
+        }
+    }
+
+    /// All statements of the innermost list.
+    fn into_statements(self, alloc: Global) -> Result<Items<Stm>, AllocError>
+        ensures flushed { IfOk result (λ list. map view_stm list ≡ flushed (view_body self).list) }
+    {
+        let Body { lists, place } = self;
+        drop(place);
+        let Lists { outer, list } = lists;
+        drop(outer);
+        list.flushed(alloc)
+    }
+}
+
+impl Lists {
+    /// A word more of a body.
+    fn read_more(&mut self, alloc: Global, place: Place, word: &[u8]) -> Result<Place, AllocError>
+        ensures read { IfOk result (λ next. view_blocks self.new next ≡ read_more (view_blocks self.old place) word.now) }
+    {
+        match token_of(word) {
+            Token::Colon => self.colon(alloc, place, word),
+            Token::Semicolon => self.end_clause(alloc, place),
+            Token::OpenBrace => self.open_brace(alloc, place),
+            Token::CloseBrace => {
+                drop(place);
+                self.close_brace(alloc)
+            }
+            Token::Else => {
+                drop(place);
+                self.go_on_else(alloc)
+            }
+            Token::Catch => {
+                drop(place);
+                self.go_on_catch(alloc)
+            }
+            Token::Finally => {
+                drop(place);
+                self.go_on_finally(alloc)
+            }
+            Token::Return => place.begin_value(alloc, Clause::ReturnOf),
+            Token::Throw => place.begin_value(alloc, Clause::ThrowOf),
+            Token::Break => place.begin_value(alloc, Clause::BreakOf),
+            Token::Continue => place.begin_value(alloc, Clause::ContinueOf),
+            Token::Case => place.begin_value(alloc, Clause::CaseOf),
+            Token::Default => place.begin_value(alloc, Clause::DefaultOf),
+            Token::If => place.begin_head(alloc, Clause::IfOf),
+            Token::While => place.begin_while(alloc),
+            Token::Do => place.begin_head(alloc, Clause::DoOf),
+            Token::For => place.begin_head(alloc, Clause::ForOf),
+            Token::Switch => place.begin_head(alloc, Clause::SwitchOf),
+            Token::Try => place.begin_head(alloc, Clause::TryOf),
+            Token::Synchronized => place.begin_head(alloc, Clause::SynchronizedOf),
+            Token::Open
+            | Token::Close
+            | Token::OpenBracket
+            | Token::CloseBracket
+            | Token::Comma
+            | Token::Dot
+            | Token::Question
+            | Token::Assigns
+            | Token::Bang
+            | Token::Operator(_)
+            | Token::Number
+            | Token::Text
+            | Token::True
+            | Token::False
+            | Token::Null
+            | Token::This
+            | Token::New
+            | Token::InstanceOf
+            | Token::Class
+            | Token::Name => place.pass(alloc, word),
+        }
+    }
+
+    /// A colon, of a label of a switch or of an expression.
+    fn colon(&mut self, alloc: Global, place: Place, word: &[u8]) -> Result<Place, AllocError>
+        ensures read { IfOk result (λ next. view_blocks self.new next ≡ colon_of (view_blocks self.old place) word.now (view_clause place.clause)) }
+    {
+        match place.clause {
+            Clause::CaseOf => self.add_case(alloc, place.into_reading()),
+            Clause::DefaultOf => {
+                drop(place);
+                self.add_label(alloc, None)
+            }
+            Clause::Simple
+            | Clause::ReturnOf
+            | Clause::ThrowOf
+            | Clause::BreakOf
+            | Clause::ContinueOf
+            | Clause::IfOf
+            | Clause::ElseOf(_, _)
+            | Clause::WhileOf
+            | Clause::SwitchOf
+            | Clause::TryOf
+            | Clause::CatchOf(_, _)
+            | Clause::FinallyOf(_)
+            | Clause::SynchronizedOf
+            | Clause::DoOf
+            | Clause::DoTest(_)
+            | Clause::ForOf
+            | Clause::ForTest
+            | Clause::ForStep(_) => place.pass(alloc, word),
+        }
+    }
+}
