@@ -1,7 +1,7 @@
 -- How members are read on, one at a time.
 use Rattle.std.proofs.Common.{◌≡◌, suc, ℕ, ◌+◌, ◌-◌, ◌<◌, false, if◌then◌else◌, sym, ap, ◌∙◌, arith}
-use Rattle.dj_parse.specs.Words.{Words}
-use Rattle.dj_parse.specs.Members.{Place, Members, ends_members, read_member, read_members}
+use Rattle.dj_tokens.specs.Words.{Words}
+use Rattle.dj_grammar.specs.Members.{Place, Members, ends_members, read_member, read_members}
 
 -- a member more, of so many at most
 pub members_go_on : (place : Place) (most counter : ℕ) (members more : Members) (list rest : Words) → counter < most → false ≡ ends_members list → (let read : Members × Words = (more, rest) in read ≡ read_member place members list)

@@ -3,8 +3,8 @@
 ghost use Rattle.std.specs.Prelude.{◌≡◌, IfOk, OnOk, option_map};
 ghost use Rattle.dj_names.specs.Types.{view_type};
 ghost use Rattle.dj_syntax.specs.Trees.{view_field, view_method};
-ghost use Rattle.dj_parse.specs.Members.{ends_members, no_members, read_helper, read_member, read_members, read_modified, read_named, with_field, with_method};
-ghost use Rattle.dj_parse.specs.Places.{view_members, view_place};
+ghost use Rattle.dj_grammar.specs.Members.{ends_members, no_members, read_helper, read_member, read_members, read_modified, read_named, with_field, with_method};
+ghost use Rattle.dj_parse.specs.Views.{view_members, view_place};
 
 mod field;
 mod method;
@@ -12,10 +12,9 @@ mod modifiers;
 
 use crate::members::field::read_field;
 use crate::members::method::{CONSTRUCTOR, read_initialiser, read_method};
-use crate::names::{read_result, units_of};
-use crate::words::Reader;
 use dj_names::{ClassName, Items, JType, Units};
 use dj_syntax::{FieldText, MethodText};
+use dj_tokens::{Reader, read_result, units_of};
 pub use modifiers::read_modifiers;
 use std::alloc::{AllocError, Global};
 

@@ -2,13 +2,12 @@
 
 ghost use Rattle.std.specs.Prelude.{◌≡◌, IfOk};
 ghost use Rattle.dj_syntax.specs.Trees.{view_unit};
-ghost use Rattle.dj_parse.specs.Units.{class_flags, name_in, read_package, read_superclass, read_unit};
+ghost use Rattle.dj_grammar.specs.Units.{class_flags, name_in, read_package, read_superclass, read_unit};
 
 use crate::members::{Place, read_members, read_modifiers};
-use crate::names::{SLASH, read_name, read_names, units_of};
-use crate::words::Reader;
 use dj_names::{ClassName, Units};
 use dj_syntax::{Unit, held_class};
+use dj_tokens::{Reader, SLASH, read_name, read_names, units_of};
 use std::alloc::{AllocError, Global};
 
 /// The flag of an interface (JVMS 4.1).

@@ -3,14 +3,14 @@
 ghost use Rattle.std.specs.Prelude.{◌≡◌, IfOk};
 ghost use Rattle.dj_names.specs.Types.{view_type};
 ghost use Rattle.dj_syntax.specs.Trees.{view_field};
-ghost use Rattle.dj_parse.specs.Members.{read_field};
-ghost use Rattle.dj_parse.specs.Places.{view_place};
+ghost use Rattle.dj_grammar.specs.Members.{read_field};
+ghost use Rattle.dj_parse.specs.Views.{view_place};
 
 use crate::members::Place;
-use crate::values::read_value;
-use crate::words::Reader;
 use dj_names::{JType, Units};
+use dj_statements::read_value;
 use dj_syntax::{FieldText, held_field};
+use dj_tokens::Reader;
 use std::alloc::{AllocError, Global};
 
 /// A field from behind its name on: its value, where it has one, and the semicolon.

@@ -3,15 +3,14 @@
 ghost use Rattle.std.specs.Prelude.{◌≡◌, IfOk, map, option_map};
 ghost use Rattle.dj_names.specs.Types.{view_descriptor, view_type};
 ghost use Rattle.dj_syntax.specs.Trees.{view_body, view_method, view_stm};
-ghost use Rattle.dj_parse.specs.Members.{body_of, head_of, method_of, read_body, read_initialiser, read_method, with_flags};
-ghost use Rattle.dj_parse.specs.Places.{view_place};
+ghost use Rattle.dj_grammar.specs.Members.{body_of, head_of, method_of, read_body, read_initialiser, read_method, with_flags};
+ghost use Rattle.dj_parse.specs.Views.{view_place};
 
-use crate::bodies::read_statements;
 use crate::members::Place;
-use crate::names::{read_names, read_parameters, units_of};
-use crate::words::Reader;
 use dj_names::{ClassName, Descriptor, Items, JType, SharedList, Units, copy_names};
+use dj_statements::read_statements;
 use dj_syntax::{Body, MethodText, Stm, held_method};
+use dj_tokens::{Reader, read_names, read_parameters, units_of};
 use std::alloc::{AllocError, Global};
 
 /// The name of a constructor.

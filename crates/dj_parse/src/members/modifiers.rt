@@ -1,9 +1,9 @@
 //! Modifiers (JLS 8.1.1, 8.3.1, 8.4.3, 9.4), read from words as the bits that they stand for (JVMS 4.1, 4.5, 4.6).
 
 ghost use Rattle.std.specs.Prelude.{◌≡◌};
-ghost use Rattle.dj_parse.specs.Members.{modifier_of, read_modifiers};
+ghost use Rattle.dj_grammar.specs.Members.{modifier_of, read_modifiers};
 
-use crate::words::{Reader, is_word};
+use dj_tokens::{Reader, is_word};
 
 /// The bits of the modifiers that come first, behind which the reader goes on.
 pub fn read_modifiers(reader: &mut Reader) -> u16

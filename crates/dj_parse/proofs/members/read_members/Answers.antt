@@ -1,5 +1,5 @@
 use Rattle.std.proofs.Common.{◌∙◌}
-use Rattle.dj_parse.specs.Places.{view_members, view_place}
+use Rattle.dj_parse.specs.Views.{view_members, view_place}
 use Rattle.dj_parse.proofs.MembersLemmas.{members_go_on}
 use Rattle.dj_parse.proofs.members.read_members.Goals as goal
 

@@ -1,6 +1,6 @@
 use Rattle.std.proofs.Common.{◌≡◌, ◌-◌}
-use Rattle.dj_parse.specs.Members.{no_members, read_members}
-use Rattle.dj_parse.specs.Places.{view_members, view_place}
+use Rattle.dj_grammar.specs.Members.{no_members, read_members}
+use Rattle.dj_parse.specs.Views.{view_members, view_place}
 use Rattle.dj_parse.proofs.members.read_members.Given as goal
 
 abbrev pub invariant-loop : goal.invariant-loop

@@ -1,7 +1,7 @@
 use Rattle.std.proofs.Common.{length, ap, ◌∙◌}
 use Rattle.dj_syntax.specs.Trees.{view_unit}
-use Rattle.dj_parse.specs.Units.{read_unit}
-use Rattle.dj_parse.proofs.UnitsAreRead.{text_is_parsed}
+use Rattle.dj_grammar.specs.Units.{read_unit}
+use Rattle.dj_grammar.proofs.UnitsAreRead.{text_is_parsed}
 use Rattle.dj_parse.proofs.parse.parse_unit.Goals as goal
 
 pub returns : goal.returns

@@ -1,7 +1,7 @@
 use Rattle.std.proofs.Common.{ap, sym, ◌∙◌, option_map}
 use Rattle.dj_names.specs.Types.{view_descriptor}
 use Rattle.dj_syntax.specs.Trees.{view_body}
-use Rattle.dj_parse.specs.Members.{flagged, head_of}
+use Rattle.dj_grammar.specs.Members.{flagged, head_of}
 use Rattle.dj_parse.proofs.members.method.with_flags.Goals as goal
 
 pub returns-in-Some : goal.returns-in-Some

@@ -1,5 +1,5 @@
 use Rattle.std.proofs.Common.{◌≡◌, length}
-use Rattle.dj_parse.specs.Members.{read_modifiers}
+use Rattle.dj_grammar.specs.Members.{read_modifiers}
 use Rattle.dj_parse.proofs.members.modifiers.read_modifiers.Given as goal
 
 abbrev pub invariant-loop-bit : goal.invariant-loop-bit

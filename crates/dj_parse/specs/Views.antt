@@ -3,7 +3,7 @@ use Rattle.std.specs.Prelude.{map}
 use Rattle.dj_syntax.specs.Trees.{view_field, view_method}
 use Rattle.dj_parse.specs.declared.members.Place as code_place
 use Rattle.dj_parse.specs.declared.members.Members as code_members
-use Rattle.dj_parse.specs.Members.{Place, Members}
+use Rattle.dj_grammar.specs.Members.{Place, Members}
 
 -- where a member stands
 abbrev pub view_place : code_place.Place → Place
