@@ -1,2 +1,2 @@
--- What the public contracts rest on, beside the text and the well formed units of `dj_syntax` and the plain units of `dj_parse`.
+-- What the public contracts rest on, beside the text and the well formed units of `dj_syntax`.
 pub mod Faults

@@ -1,11 +1,13 @@
-//! The reader of units: bytes are read as the well formed unit whose text they are, and as one wherever they are that of a plain one.
+//! The reader of units: exactly the bytes that are the text of a well formed unit are read, as that unit, but for those that nest too deep.
 
-ghost use Rattle.std.specs.Prelude.{◌≡◌, ◌↔◌, IfErr, IfOk, IsTrue};
+ghost use Rattle.std.specs.Prelude.{◌≡◌, ◌↔◌, IfErr, IfOk, IsTrue, OnOk};
 ghost use Rattle.dj_syntax.specs.Trees.{view_unit};
 ghost use Rattle.dj_syntax.specs.UnitText.{unit_text};
 ghost use Rattle.dj_syntax.specs.WellFormed.{IsWellFormed};
+ghost use Rattle.dj_depth.specs.Depth.{IsDeep};
 ghost use Rattle.dj_read.specs.Faults.{IsReadUnitFault};
 
+use dj_depth::is_deep;
 use dj_parse::parse_unit;
 use dj_print::unit_bytes;
 use dj_syntax::Unit;
@@ -16,8 +18,10 @@ use thiserror::Error;
 /// Why bytes aren't read as a unit.
 #[derive(Debug, Drop, Error)]
 pub enum ReadUnitFault {
-    #[error("the bytes are the text of no plain unit")]
+    #[error("the bytes are the text of no unit")]
     Misread,
+    #[error("the text nests too deep")]
+    Deep,
     #[error(transparent)]
     Memory(AllocError),
 }
@@ -36,8 +40,12 @@ impl From<AllocError> for ReadUnitFault {
 /// The unit whose text the bytes are.
 pub fn read_unit(alloc: Global, bytes: &[u8]) -> Result<Unit, ReadUnitFault>
     ensures read { IfOk result (λ unit. IsWellFormed (view_unit unit) × (unit_text (view_unit unit) ≡ bytes.now)) }
-    ensures misread { IfErr result (λ fault. IsReadUnitFault bytes.now fault) }
+    ensures shallow { OnOk result (¬ IsDeep bytes.now) }
+    ensures fault { IfErr result (λ fault. IsReadUnitFault bytes.now fault) }
 {
+    if is_deep(alloc, bytes)? {
+        return Err(ReadUnitFault::Deep);
+    }
     let unit = parse_unit(alloc, bytes)?;
     if is_spelled(alloc, &unit, bytes)? {
         Ok(unit)

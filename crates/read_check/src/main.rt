@@ -1,4 +1,4 @@
-//! Reads texts that `decompile` printed, and tells of each whether its unit is read back: `read`, `misread` or `no text`.
+//! Reads texts that `decompile` printed, and tells of each whether its unit is read back: `read`, `misread`, `deep` or `no text`.
 //! It stands on `dj_read` for the reader, and on `dj_outer` for files.
 //! No layer stands above it: `bench/first_path` runs it on large texts.
 #![tactic(auto)]
@@ -33,6 +33,7 @@ fn answer(alloc: Global, text: &[u8]) -> Result<&'static str, AllocError> {
     match read_unit(alloc, unit_text(text)) {
         Ok(_) => Ok("read"),
         Err(ReadUnitFault::Misread) => Ok("misread"),
+        Err(ReadUnitFault::Deep) => Ok("deep"),
         Err(ReadUnitFault::Memory(error)) => Err(error),
     }
 }
