@@ -1,15 +1,17 @@
 """Compares text_check with javac's parser: the trees that it makes of the texts of units.
 
-usage: python3 checks/texts.py PROGRAM [COUNT [SEED]], with the built text_check as PROGRAM (which isn't written yet), or - for javac and the rules of the text alone.
+usage: python3 checks/texts.py PROGRAM [COUNT [SEED]], with the built text_check as PROGRAM, or - for javac and the rules of the text alone.
 COUNT units (20,000) are made by PROGRAM, and as many here by `random_units.py`, whose texts and shapes `unit_texts.py`
 and `unit_shapes.py` write from the rules alone. javac has to take each text and to make a tree of the shape that is told; PROGRAM has to read
-each, as a unit of that shape. The same of texts of which one token is deleted or doubled: where PROGRAM reads one, javac
+each, as a unit of that shape; and its text of a unit has to be that which the rules give the unit of the shape that it tells (`unit_trees.py`). The same of texts of which one token is deleted or doubled: where PROGRAM reads one, javac
 takes it, with the same shape. A difference that no rule named here explains is printed, and the exit status is 1.
 
 PROGRAM reads lines and answers each by one:
 
     make SEED       a random well formed unit, every kind of expression, statement and member nested: `TEXT SHAPE`
-    read TEXT       what the text is: `unit SHAPE`, or `misread` where it is no unit's
+    read TEXT       what the text is: `unit SHAPE`, `misread` where it is no unit's, or `deep` where it nests too deep to be read
+    print COUNT     of a random unit with so many methods the bytes of its text
+    hold COUNT      of the same unit 0, without printing it
 
 A TEXT is the bytes of a text in hexadecimal. A SHAPE is the tree that javac's parser makes of the text, as one of
 
@@ -50,6 +52,7 @@ from asking import ask_each
 from random_units import Maker
 from unit_shapes import shape
 from unit_texts import text
+from unit_trees import tree
 
 FOLDER = pathlib.Path(__file__).parent
 BATCH = 2_000
@@ -96,6 +99,12 @@ class Referee:
                 if given != "unit " + wanted:
                     self.differ(who + ", text_check", written, "unit " + wanted, given)
 
+    def spelled(self, texts, shapes):
+        """Texts that the program told with these shapes."""
+        for given, wanted in zip(texts, [text(tree(each)) for each in shapes]):
+            if given != wanted:
+                self.differ("made by the program, text", given, wanted, given)
+
     def changed(self, rng, texts):
         """Texts of units with a change: what the program reads, javac takes."""
         texts = [damaged(rng, each) for each in texts]
@@ -113,6 +122,7 @@ class Referee:
         if self.program:
             made = [line.split(" ", 1) for line in ask_each([self.program], [f"make {first + number}" for number in range(count)])]
             texts += [bytes.fromhex(each).decode() for each, _ in made]
+            self.spelled(texts[count:], [each for _, each in made])
             self.whole("made by the program", texts[count:], [each for _, each in made])
         self.changed(rng, texts)
 
