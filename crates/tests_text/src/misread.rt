@@ -1,8 +1,8 @@
 //! Bytes that are the text of no unit are misread, and a unit without a text isn't well formed.
 
-use crate::texts::{DIFFERENCE, FINAL_CLASS, printed_again};
+use crate::texts::{DIFFERENCE, FINAL_CLASS, KINDS};
 use dj_names::{ClassName, Units};
-use dj_read::read_unit;
+use dj_read::{ReadUnitFault, read_unit};
 use dj_syntax::Unit;
 use dj_well_formed::is_well_formed;
 use std::alloc::{AllocError, Global};
@@ -18,7 +18,11 @@ const NO_TEXTS: &[&str] = &[
 ];
 
 fn is_misread(alloc: Global, bytes: &[u8]) -> Result<bool, AllocError> {
-    Ok(printed_again(alloc, bytes)?.is_none())
+    match read_unit(alloc, bytes) {
+        Ok(_) | Err(ReadUnitFault::Deep) => Ok(false),
+        Err(ReadUnitFault::Misread) => Ok(true),
+        Err(ReadUnitFault::Memory(error)) => Err(error),
+    }
 }
 
 #[test]
@@ -68,6 +72,19 @@ fn a_byte_added_or_changed_is_misread(rt: HostRuntime) -> Result<(), Fail> {
     Ok(())
 }
 
+// No text has a byte above 126.
+#[test]
+fn each_byte_of_a_text_counts(rt: HostRuntime) -> Result<(), Fail> {
+    let text = KINDS.as_bytes();
+    for (at, _) in text.iter().enumerate() {
+        assert!(rt;
+            is_misread_with(rt.alloc(), text, at, at.saturating_add(1), &[0x80])?,
+            "changed at {at}"
+        );
+    }
+    Ok(())
+}
+
 /// In how many places the text is that of a unit where the byte there is removed.
 fn texts_without_a_byte(alloc: Global, text: &[u8]) -> Result<u32, AllocError> {
     let mut count = 0u32;
@@ -85,6 +102,29 @@ fn texts_without_a_byte(alloc: Global, text: &[u8]) -> Result<u32, AllocError> {
 fn without_a_byte_it_is_mostly_misread(rt: HostRuntime) -> Result<(), Fail> {
     let others = texts_without_a_byte(rt.alloc(), DIFFERENCE.as_bytes())?;
     assert_eq!(rt; others, 12);
+    Ok(())
+}
+
+/// In how many places the text is that of a unit where the byte there and the next one, if it differs, are swapped.
+fn texts_with_a_swap(alloc: Global, text: &[u8]) -> Result<u32, AllocError> {
+    let mut count = 0u32;
+    for (at, pair) in text.windows(2).enumerate() {
+        if let [first, second] = pair
+            && first != second
+            && !is_misread_with(alloc, text, at, at.saturating_add(2), &[*second, *first])?
+        {
+            count = count.saturating_add(1);
+        }
+    }
+    Ok(count)
+}
+
+// With two bytes swapped the text is that of another unit in eight places: `nit` and `itn` for each of the three
+// `int`, `in tf` and `fi(nt`.
+#[test]
+fn with_two_bytes_swapped_it_is_mostly_misread(rt: HostRuntime) -> Result<(), Fail> {
+    let others = texts_with_a_swap(rt.alloc(), DIFFERENCE.as_bytes())?;
+    assert_eq!(rt; others, 8);
     Ok(())
 }
 

@@ -121,7 +121,86 @@ const OPERATORS: &str = "class Operators {
 }
 ";
 
+/// Each kind of member, statement and expression.
+pub const KINDS: &str = "package a.b;
+public abstract class C extends a.Base implements I, a.J {
+    int a;
+    public static final int b = -5;
+    protected transient volatile long[][] c;
+    private final java.lang.String d = \"\\b\\t\\n\\f\\r\\\"\\\\ ~\\u0000\\u007f\\uffff\";
+    static final boolean e = true;
+    static <T extends java.lang.Throwable> java.lang.RuntimeException rethrow$10(java.lang.Throwable t) throws T {
+        throw (T) t;
+    }
+    public abstract int[] f(long p0, a.C[] p1) throws a.E, F;
+    protected static final synchronized native void g();
+    private C(int p0) {
+        this(p0, -9223372036854775808L);
+    }
+    C() throws E {
+        super();
+    }
+    static {
+        C.f = 5;
+    }
+    int h(int p0) {
+        {
+            return;
+        }
+        l0: l4294967295: while (true) {
+            continue l0;
+        }
+        int v0;
+        a.C[] e1 = null;
+        v0 = p0 - 1;
+        p0.f = 0L;
+        (C.f).g = v0;
+        a.C.f = -1;
+        p0[p1 + 1] = s1 = 5;
+        p0.f();
+        new a.C(p0 * p1, new D());
+        if (p0 == 5) {
+            break l0;
+        }
+        if (!p0) {
+        } else {
+            if (p1 instanceof a.C[]) {
+            }
+        }
+        switch (p0 << 1) {
+            case -5:
+            case 0:
+                v0 = 1;
+                break l0;
+            default:
+                C.f(this, a.I.super.f() ? 1 : (p0 = 2));
+        }
+        do {
+            super.f(int[].class);
+        } while (v0 < p0);
+        for (; v0 >= 5; v0 = v0 + 1) {
+            (C.f).g(\"\").h();
+        }
+        try {
+            throw new java.lang.Error();
+        } catch (a.E e0) {
+            throw a.b.C.<java.lang.RuntimeException>rethrow$10(e0);
+        } catch (F e1) {
+        }
+        try {
+        } finally {
+            v0 = (int) (-(-p0));
+        }
+        synchronized (C.class) {
+            v1 = new int[p0][5][][];
+        }
+        return (new C(null)).f[-1] ? false : ((a.C) p0);
+    }
+}
+";
+
 const TEXTS: &[&str] = &[
+    KINDS,
     NO_MEMBER,
     DIFFERENCE,
     TWO_METHODS,
@@ -140,12 +219,12 @@ pub fn printed_again(alloc: Global, bytes: &[u8]) -> Result<Option<Vec<u8>>, All
             let copy = unit.copy(alloc)?;
             Ok(Some(unit_bytes(alloc, &copy)?))
         }
-        Err(ReadUnitFault::Misread) => Ok(None),
+        Err(ReadUnitFault::Misread | ReadUnitFault::Deep) => Ok(None),
         Err(ReadUnitFault::Memory(error)) => Err(error),
     }
 }
 
-fn is_printed_again(alloc: Global, bytes: &[u8]) -> Result<bool, AllocError> {
+pub fn is_printed_again(alloc: Global, bytes: &[u8]) -> Result<bool, AllocError> {
     Ok(match printed_again(alloc, bytes)? {
         Some(again) => again.as_slice() == bytes,
         None => false,
@@ -168,32 +247,10 @@ fn an_interface_implies_its_flags(rt: HostRuntime) -> Result<(), Fail> {
 }
 
 /// Ends a line, and indents the next one by so many levels, twenty at most.
-fn put_line(text: &mut Vec<u8>, level: u32, line: &[u8]) -> Result<(), AllocError> {
+pub fn put_line(text: &mut Vec<u8>, level: u32, line: &[u8]) -> Result<(), AllocError> {
     text.push(b'\n')?;
     for _ in 0..level.min(20) {
         text.extend_from_slice(b"    ")?;
     }
     text.extend_from_slice(line)
-}
-
-/// The text of a method with so many blocks, each in the one before it.
-fn nested_blocks(alloc: Global, blocks: u32) -> Result<Vec<u8>, AllocError> {
-    let mut text = Vec::from_slice(alloc, b"class C {\n    static int f(int p0) {")?;
-    let mut ends = Vec::new(alloc);
-    for block in 0..blocks {
-        let outside = blocks.saturating_sub(block);
-        put_line(&mut text, block.saturating_add(2), b"{")?;
-        put_line(&mut ends, outside.saturating_add(1), b"}")?;
-    }
-    put_line(&mut text, blocks.saturating_add(2), b"return (-5) + p0;")?;
-    text.extend_from_slice(ends.as_slice())?;
-    text.extend_from_slice(b"\n    }\n}\n")?;
-    Ok(text)
-}
-
-#[test]
-fn two_thousand_nested_blocks_are_printed_again(rt: HostRuntime) -> Result<(), Fail> {
-    let text = nested_blocks(rt.alloc(), 2000)?;
-    assert!(rt; is_printed_again(rt.alloc(), text.as_slice())?);
-    Ok(())
 }
