@@ -1,0 +1,52 @@
+-- Orders of search and packages at worked examples, by computation: a wrong definition is refused here.
+use Rattle.std.proofs.Common.{◌≡◌, ℕ, List, [], ◌∷◌, Option, Some, None, refl}
+use Rattle.std.specs.Prelude.{codes}
+use Rattle.dj_names.specs.declared.header.Header.{Header}
+use Rattle.dj_names.specs.Headers.{Name}
+use Rattle.dj_names.specs.Assignable.{object_name}
+use Rattle.dj_kinds.specs.Search.{classes_then_interfaces, method_order, field_order}
+use Rattle.dj_kinds.specs.Access.{package_of}
+
+-- a public class, or with 0x0601 an interface
+abbrev header : Name → Option Name → List Name → ℕ → Header
+header name superclass interfaces flags = record { name = name; superclass = superclass; interfaces = interfaces; flags = flags }
+
+-- `class B extends A implements J`, `class A implements I`, `interface J extends I`
+abbrev family : List Header
+family =
+    header object_name None [] 0x0021
+    ∷ header (codes "B") (Some (codes "A")) (codes "J" ∷ []) 0x0021
+    ∷ header (codes "A") (Some object_name) (codes "I" ∷ []) 0x0021
+    ∷ header (codes "J") (Some object_name) (codes "I" ∷ []) 0x0601
+    ∷ header (codes "I") (Some object_name) [] 0x0601
+    ∷ []
+
+-- the classes come before all interfaces
+a_method : method_order family (codes "m") (codes "B") ≡ codes "B" ∷ codes "A" ∷ object_name ∷ codes "J" ∷ codes "I" ∷ codes "I" ∷ []
+a_method = refl
+
+-- a constructor is the class's own
+a_constructor : method_order family (codes "<init>") (codes "B") ≡ codes "B" ∷ []
+a_constructor = refl
+
+-- each class comes with its interfaces, before its superclass
+a_field : field_order family (codes "B") ≡ codes "B" ∷ codes "J" ∷ codes "I" ∷ codes "A" ∷ codes "I" ∷ object_name ∷ []
+a_field = refl
+
+-- a search that starts at an interface goes to its superclass Object first
+an_interface : classes_then_interfaces family (codes "J") ≡ codes "J" ∷ object_name ∷ codes "I" ∷ []
+an_interface = refl
+
+-- a class that isn't there is searched alone, and has nothing
+a_missing_class : classes_then_interfaces family (codes "K") ≡ codes "K" ∷ []
+a_missing_class = refl
+
+-- a circle is cut
+a_circle : classes_then_interfaces (header (codes "A") (Some (codes "A")) [] 0x0021 ∷ []) (codes "A") ≡ codes "A" ∷ codes "A" ∷ []
+a_circle = refl
+
+a_package : package_of (codes "java/lang/String") ≡ codes "java/lang/"
+a_package = refl
+
+the_unnamed_package : package_of (codes "Main") ≡ []
+the_unnamed_package = refl

@@ -1,0 +1,7 @@
+pub mod SearchLemmas
+pub mod HeaderLemmas
+pub mod PackageLemmas
+pub mod PickLemmas
+pub mod OwnLemmas
+pub mod ChoiceLemmas
+pub mod Examples

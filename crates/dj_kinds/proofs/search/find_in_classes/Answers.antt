@@ -1,0 +1,26 @@
+use Rattle.std.proofs.Common.{◌∷◌, Some, None, arith}
+use Rattle.dj_kinds.specs.Search.{beside}
+use Rattle.dj_kinds.proofs.SearchLemmas.{above_here, above_next, above_last, above_end}
+use Rattle.dj_kinds.proofs.search.find_in_classes.Goals as goal
+
+pub returns-in-Some : goal.returns-in-Some
+returns-in-Some g c = record {
+  found = c.loop.invariant (Some c.in-Some.member)
+      (above_here (g.D.Declares.own c.args.declares.now) (λ one. one ∷ beside c.args.most c.args.headers.now one) c.args.headers.now c.args.most c.loop.counter c.loop.at.now c.in-Some.member (omega arith) c.in-Some.ensures.found);
+}
+
+pub returns-in-None-superclass_of : goal.returns-in-None-superclass_of
+returns-in-None-superclass_of g c = record {
+  found = c.loop.invariant None
+      (above_last (g.D.Declares.own c.args.declares.now) (λ one. one ∷ beside c.args.most c.args.headers.now one) c.args.headers.now c.args.most c.loop.counter c.loop.at.now (omega arith) c.in-None.ensures.found c.in-None-superclass_of.ensures.superclass);
+}
+
+pub loop-preserved : goal.loop-preserved
+loop-preserved g c = λ found rest.
+    c.loop.invariant found
+    (above_next (g.D.Declares.own c.args.declares.now) (λ one. one ∷ beside c.args.most c.args.headers.now one) c.args.headers.now c.args.most c.loop.counter c.loop.at.now _ found (omega arith) c.in-None.ensures.found c.in-Some-superclass_of.ensures.superclass rest)
+
+pub returns : goal.returns
+returns g c = record {
+  found = c.loop.invariant None (above_end (g.D.Declares.own c.args.declares.now) (λ one. one ∷ beside c.args.most c.args.headers.now one) c.args.headers.now c.args.most c.loop.counter c.loop.at.now (omega arith));
+}
