@@ -1,0 +1,3 @@
+pub mod NameTests
+pub mod LineLemmas
+pub mod TableTests

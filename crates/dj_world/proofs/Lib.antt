@@ -1,0 +1,4 @@
+pub mod LearningLemmas
+pub mod NamedLemmas
+pub mod ClashLemmas
+pub mod FillLemmas

@@ -1,0 +1,64 @@
+//! Answers each line: one of hexadecimal bytes with what became of them in a world: `added`, the clash, `broken`, or `many` where there are too many classes or members; and the line `fill` with how many classes the world has once the core classes are filled in.
+//! It stands on the reader of class files and the world, and reads and prints.
+//! No layer stands above it: its stored run is a world of small classes.
+#![tactic(auto)]
+
+use anyhow::Result;
+use dj_class::read_class;
+use dj_world::{AddFault, World};
+use std::alloc::Global;
+use std::io;
+use std::io::{BufRead, BufReader, BufWriter, Write};
+
+/// The oldest major version that is read.
+const OLDEST: u16 = 45;
+
+/// How many fields a class file has at most, how many methods, and how many classes are added here.
+const MOST: usize = 65_535;
+
+fn add(alloc: Global, world: &mut World, line: &str) -> Result<String> {
+    let bytes = hex::decode(alloc, line.as_bytes())?;
+    let Ok(class) = read_class(alloc, bytes.as_slice(), OLDEST) else {
+        return Ok(format!(in alloc; "broken")?);
+    };
+    if world.members().classes.len() > MOST
+        || class.fields.len() > MOST
+        || class.methods.len() > MOST
+    {
+        return Ok(format!(in alloc; "many")?);
+    }
+    match world.add(&class) {
+        Ok(()) => Ok(format!(in alloc; "added")?),
+        Err(AddFault::Clash(kind)) => Ok(format!(in alloc; "clash {kind:?}")?),
+        Err(AddFault::Memory(_)) => Ok(format!(in alloc; "memory")?),
+    }
+}
+
+fn fill(alloc: Global, world: &mut World) -> Result<String> {
+    if world.members().classes.len() > MOST {
+        return Ok(format!(in alloc; "many")?);
+    }
+    world.fill()?;
+    let count = world.headers().as_slice().len();
+    Ok(format!(in alloc; "{count} classes")?)
+}
+
+fn answer(alloc: Global, world: &mut World, line: &str) -> Result<String> {
+    if line == "fill" {
+        fill(alloc, world)
+    } else {
+        add(alloc, world, line)
+    }
+}
+
+fn main(rt: HostRuntime) -> Result<()> {
+    let alloc = rt.alloc();
+    let mut world = World::new(alloc);
+    let mut out = BufWriter::new(alloc, io::writer(&rt))?;
+    for line in BufReader::new(alloc, rt.reader())?.lines(alloc) {
+        let answer = answer(alloc, &mut world, line?.as_str())?;
+        writeln!(out, "{answer}")?;
+    }
+    out.flush()?;
+    Ok(())
+}
