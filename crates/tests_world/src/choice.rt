@@ -1,0 +1,62 @@
+//! Which method a call means (JLS 15.12.2).
+
+use crate::classes::{class_of, headers, members, type_of, units_of};
+use dj_kinds::choose;
+use dj_names::{Items, StaticType};
+use std::alloc::{AllocError, Global};
+use std::test::*;
+
+/// The type of the receiver, the name, the types of the arguments, an empty one for `null`, and the places of the method.
+type Row = (
+    &'static str,
+    &'static str,
+    &'static [&'static str],
+    Option<(u32, u32)>,
+);
+
+const CALLS: &[Row] = &[
+    ("Lt/B;", "f", &["Lt/B;"], Some((2, 6))),
+    ("Lt/B;", "f", &[""], Some((2, 6))),
+    ("Lt/B;", "f", &["Ljava/lang/Object;"], Some((2, 5))),
+    ("Lt/B;", "f", &["I"], None),
+    ("Lt/B;", "f", &[], None),
+    ("Lt/B;", "b", &["I"], Some((2, 8))),
+    ("Lt/B;", "b", &["S"], Some((2, 8))),
+    ("Lt/B;", "d", &[], None),
+    ("[I", "clone", &[], Some((0, 1))),
+    ("I", "clone", &[], None),
+];
+
+fn types_of(alloc: Global, texts: &[&str]) -> Result<Items<StaticType>, AllocError> {
+    let mut types = Items::new(alloc);
+    for text in texts {
+        if text.is_empty() {
+            types.push(StaticType::Null)?;
+        } else {
+            types.push(StaticType::Of(type_of(alloc, text)?))?;
+        }
+    }
+    Ok(types)
+}
+
+#[test]
+fn calls_mean_methods(rt: HostRuntime) -> Result<(), Fail> {
+    let headers = headers(rt.alloc())?;
+    let members = members(rt.alloc())?;
+    let from = class_of(rt.alloc(), "t/B")?;
+    for (receiver, name, arguments, wanted) in CALLS {
+        let receiver = type_of(rt.alloc(), receiver)?;
+        let chosen = choose(
+            &headers,
+            &members,
+            &from,
+            &receiver,
+            Some(&receiver),
+            &units_of(rt.alloc(), name)?,
+            types_of(rt.alloc(), arguments)?.as_slice(),
+        );
+        let place = chosen.map(|member| (member.class, member.number));
+        assert!(rt; place == *wanted, "{name}");
+    }
+    Ok(())
+}
