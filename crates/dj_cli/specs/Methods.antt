@@ -3,6 +3,7 @@ use Rattle.std.specs.Prelude.{◌≡◌, ℕ, false, List, [], ◌++◌, None, s
 use Rattle.std.specs.List.{AllByRecursion, flat_map}
 use Rattle.dj_names.specs.Types.{view_descriptor}
 use Rattle.dj_class.specs.Described.{ClassOf, MethodOf}
+use Rattle.dj_world.specs.Worlds.{WorldOf}
 use Rattle.dj_syntax.specs.Trees as trees
 use Rattle.dj_syntax.specs.Trees.{Exp, Body, MethodText, view_exp}
 use Rattle.dj_syntax.specs.WellFormed.{IsWellFormedExp, IsWellFormedMethod}
@@ -28,10 +29,10 @@ IsFound class before method (finding.Straight exp) = IsStraightMethod class befo
 IsFound class before method (finding.Bad pc kind) = IsBadMethod class method kind pc
 IsFound class before method (finding.NotYet pc) = IsNotYet class before method pc
 
--- a verdict on a method that isn't printed, and the end of its line
+-- a verdict on a method that isn't printed, in whatever world, and the end of its line
 pub record IsLineOf (class : ClassOf) (before : List MethodOf) (method : MethodOf) (tail : List ℕ) : Type 0 where
   pub verdict : Verdict
-  pub is_verdict : IsVerdict class before method verdict
+  pub is_verdict : (world : WorldOf) → IsVerdict world class before method verdict
   pub no_body : body_of verdict ≡ None
   pub line_is : method_line class method verdict ≡ shown_method class.this_class method.name method.descriptor ++ tail
 
@@ -55,10 +56,10 @@ line_bytes class line = shown_method class line.method.now.name (view_descriptor
 abbrev pub lines_bytes : List ℕ → List MethodLine → List ℕ
 lines_bytes class lines = flat_map (line_bytes class) lines
 
--- verdicts on methods of a class, the texts of those that are printed, each well formed, and the lines on the others
+-- verdicts on methods of a class, in whatever world, the texts of those that are printed, each well formed, and the lines on the others
 pub record AreJudged (class : ClassOf) (methods : List MethodOf) (texts : List MethodText) (lines : List ℕ) : Type 0 where
   pub verdicts : List Verdict
-  pub judged : AreVerdicts class [] methods verdicts
+  pub judged : (world : WorldOf) → AreVerdicts world class [] methods verdicts
   pub texts_are : texts ≡ printed_methods methods (bodies_of verdicts)
   pub lines_are : lines ≡ method_lines class methods verdicts
   pub well_formed : AllByRecursion (IsWellFormedMethod false false class.this_class) texts

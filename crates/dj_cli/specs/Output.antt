@@ -1,10 +1,10 @@
--- What a run tells of the files of an order, in pieces, and how far it got: the headline.
-use Rattle.std.specs.Prelude.{◌≡◌, ◌≢◌, ◌⊎◌, ℕ, ◌+◌, Bool, List, [], ◌∷◌, ◌++◌, length, map, take, slice_get, Option, Some, None, IfSome, IsSome, IsSomeAnd, MatchBool, ⊤}
+-- What a run tells of the files of an order, in pieces, and how far it got: the headline. Each definition that takes a world speaks of the one that the files make.
+use Rattle.std.specs.Prelude.{◌≡◌, ◌≢◌, ◌⊎◌, ℕ, ◌+◌, Bool, List, [], ◌∷◌, ◌++◌, length, map, take, slice_get, Option, Some, None, IsSome, IsSomeAnd, MatchBool, ⊤}
 use Rattle.std.specs.List.{flat_map}
 use Rattle.std.specs.Io.KnownBytes.{append_known}
-use Rattle.dj_names.specs.declared.header.Header.{Header}
-use Rattle.dj_names.specs.declared.members.ClassMembers.{ClassMembers}
 use Rattle.dj_class.specs.Described.{ClassOf, MethodOf}
+use Rattle.dj_class.specs.Views.{view_class}
+use Rattle.dj_world.specs.Worlds.{WorldOf}
 use Rattle.dj_syntax.specs.Trees.{Exp, Body, CompilationUnit}
 use Rattle.dj_syntax.specs.UnitText.{unit_text}
 use Rattle.dj_syntax.specs.WellFormed.{IsWellFormed}
@@ -16,7 +16,7 @@ use Rattle.dj_unit.specs.ClassText.{IsClassText, file_line}
 use Rattle.dj_unit.specs.ClassPart.{IsClassPart}
 use Rattle.dj_report.specs.Report.{line_text}
 use Rattle.dj_report.specs.Report as report
-use Rattle.dj_load.specs.HeldFiles.{Files, FileIs, IsClass, IsBroken, Setting}
+use Rattle.dj_load.specs.HeldFiles.{Files, FileIs, IsClass, IsClash, IsBroken, Setting}
 
 -- what is told of one file, or behind the last one: a text, and then the lines of the report on it
 pub record Piece : Type 0 where
@@ -31,12 +31,12 @@ pub data Verdict : Type 0 where
   Bad : BadKind → ℕ → Verdict
   NotYet : ℕ → Verdict
 
--- a straight method, and its body, which shows the same as its code at every bound, whatever classes may run, for all arguments that fit and all answers
-pub record PrintsMethod (class : ClassOf) (before : List MethodOf) (method : MethodOf) (body : Body) : Type 0 where
+-- a straight method of a class, and its body, which shows the same as its code in the world, at every bound, whatever classes may run besides, for all arguments that fit and all answers
+pub record PrintsMethod (world : WorldOf) (class : ClassOf) (before : List MethodOf) (method : MethodOf) (body : Body) : Type 0 where
   pub exp : Exp
   pub straight : IsStraightMethod class before method exp
   pub of_method : IsBodyOf class method exp body
-  pub shows : (world : List Header) (members : List ClassMembers) → SameShows world members straight.code body
+  pub shows : SameShows world.headers world.members straight.code body
 
 -- a method has code that is none, and this is its first fault
 pub record IsBadMethod (class : ClassOf) (method : MethodOf) (kind : BadKind) (pc : ℕ) : Type 0 where
@@ -44,18 +44,18 @@ pub record IsBadMethod (class : ClassOf) (method : MethodOf) (kind : BadKind) (p
   pub first : FirstCodeFault class method kind pc
 
 -- the verdict on a method of a class, those before it in the file given: it is printed, or its code is bad, or it isn't straight at this offset of its code
-abbrev pub IsVerdict : ClassOf → List MethodOf → MethodOf → Verdict → Type 0
-IsVerdict class before method (Prints body) = PrintsMethod class before method body
-IsVerdict class before method (Bad kind pc) = IsBadMethod class method kind pc
-IsVerdict class before method (NotYet pc) = IsNotYet class before method pc
+abbrev pub IsVerdict : WorldOf → ClassOf → List MethodOf → MethodOf → Verdict → Type 0
+IsVerdict world class before method (Prints body) = PrintsMethod world class before method body
+IsVerdict world class before method (Bad kind pc) = IsBadMethod class method kind pc
+IsVerdict world class before method (NotYet pc) = IsNotYet class before method pc
 
 -- one verdict for each method, in file order
-abbrev pub AreVerdicts : ClassOf → List MethodOf → List MethodOf → List Verdict → Type 0
-AreVerdicts class before [] [] = ⊤
-AreVerdicts class before [] (verdict ∷ verdicts) = ⊥
-AreVerdicts class before (method ∷ methods) [] = ⊥
-AreVerdicts class before (method ∷ methods) (verdict ∷ verdicts) =
-    IsVerdict class before method verdict × AreVerdicts class (before ++ method ∷ []) methods verdicts
+abbrev pub AreVerdicts : WorldOf → ClassOf → List MethodOf → List MethodOf → List Verdict → Type 0
+AreVerdicts world class before [] [] = ⊤
+AreVerdicts world class before [] (verdict ∷ verdicts) = ⊥
+AreVerdicts world class before (method ∷ methods) [] = ⊥
+AreVerdicts world class before (method ∷ methods) (verdict ∷ verdicts) =
+    IsVerdict world class before method verdict × AreVerdicts world class (before ++ method ∷ []) methods verdicts
 
 -- the body that a method is printed with, where it is
 abbrev pub body_of : Verdict → Option Body
@@ -83,9 +83,9 @@ method_lines class (method ∷ methods) (verdict ∷ verdicts) =
 -- ---- a file
 
 -- a class is printed with exactly its straight methods: its unit is well formed, no other well formed unit has its text, and each other method has its line
-pub record PrintsClass (class : ClassOf) (piece : Piece) : Type 0 where
+pub record PrintsClass (world : WorldOf) (class : ClassOf) (piece : Piece) : Type 0 where
   pub verdicts : List Verdict
-  pub judged : AreVerdicts class [] class.methods verdicts
+  pub judged : AreVerdicts world class [] class.methods verdicts
   pub unit : CompilationUnit
   pub class_text : IsClassText class (bodies_of verdicts) unit
   pub well_formed : IsWellFormed unit
@@ -94,14 +94,15 @@ pub record PrintsClass (class : ClassOf) (piece : Piece) : Type 0 where
   pub lines_are : piece.lines ≡ method_lines class class.methods verdicts
 
 -- the piece of a class: it is printed, where it is of the class part; else there is the line that nothing of it is printed yet
-pub data IsClassPiece (class : ClassOf) (piece : Piece) : Type 0 where
-  printed : IsClassPart class → PrintsClass class piece → IsClassPiece class piece
-  not_yet : ¬ IsClassPart class → piece.text ≡ [] → piece.lines ≡ line_text (report.NotYetClass class.this_class) → IsClassPiece class piece
+pub data IsClassPiece (world : WorldOf) (class : ClassOf) (piece : Piece) : Type 0 where
+  printed : IsClassPart class → PrintsClass world class piece → IsClassPiece world class piece
+  not_yet : ¬ IsClassPart class → piece.text ≡ [] → piece.lines ≡ line_text (report.NotYetClass class.this_class) → IsClassPiece world class piece
 
--- the piece of a file of this name: that of its class, or the line that it is broken
-abbrev pub IsFilePiece : List ℕ → FileIs → Piece → Type 0
-IsFilePiece name (IsClass class) piece = IsClassPiece class piece
-IsFilePiece name (IsBroken kind offset) piece = (piece.text ≡ []) × (piece.lines ≡ line_text (report.Broken name kind offset))
+-- the piece of a file of this name: that of its class, or the line that its class clashes, or that it is broken
+abbrev pub IsFilePiece : WorldOf → List ℕ → FileIs → Piece → Type 0
+IsFilePiece world name (IsClass class) piece = IsClassPiece world (view_class class) piece
+IsFilePiece world name (IsClash kind) piece = (piece.text ≡ []) × (piece.lines ≡ line_text (report.Clash name kind))
+IsFilePiece world name (IsBroken kind offset) piece = (piece.text ≡ []) × (piece.lines ≡ line_text (report.Broken name kind offset))
 
 -- ---- all files
 
@@ -111,15 +112,15 @@ pub record IsLastPiece (piece : Piece) : Type 0 where
   pub no_line : piece.lines ≡ []
 
 -- the piece behind these: that of the next file, or behind all files the last one
-abbrev pub IsNext : List (List ℕ) → List FileIs → List Piece → Piece → Type 0
-IsNext names found before piece =
-    IsSomeAnd (slice_get names (length before)) (λ name. IsSomeAnd (slice_get found (length before)) (λ file. IsFilePiece name file piece))
+abbrev pub IsNext : List (List ℕ) → List FileIs → WorldOf → List Piece → Piece → Type 0
+IsNext names found world before piece =
+    IsSomeAnd (slice_get names (length before)) (λ name. IsSomeAnd (slice_get found (length before)) (λ file. IsFilePiece world name file piece))
     ⊎ ((length before ≡ length names) × IsLastPiece piece)
 
 -- some first pieces, in order
-pub data AreFirst (names : List (List ℕ)) (found : List FileIs) : List Piece → Type 0 where
-  none : AreFirst names found []
-  more : (before : List Piece) (piece : Piece) → AreFirst names found before → IsNext names found before piece → AreFirst names found (before ++ piece ∷ [])
+pub data AreFirst (names : List (List ℕ)) (found : List FileIs) (world : WorldOf) : List Piece → Type 0 where
+  none : AreFirst names found world []
+  more : (before : List Piece) (piece : Piece) → AreFirst names found world before → IsNext names found world before piece → AreFirst names found world (before ++ piece ∷ [])
 
 -- the texts of pieces, one after another
 abbrev pub text_of : List Piece → List ℕ
@@ -137,22 +138,22 @@ pub record Grew (pieces : List Piece) (text lines : List ℕ) (text_old text_new
   pub report_taken : report_new ≡ append_known report_old (lines_of pieces ++ lines)
 
 -- so many first pieces were told, whole, and nothing besides; the flag tells whether they have a line
-pub record ToldFirst (count : ℕ) (refused : Bool) (text_old text_new report_old report_new : Option (List ℕ)) (names : List (List ℕ)) (found : List FileIs) : Type 0 where
+pub record ToldFirst (count : ℕ) (refused : Bool) (text_old text_new report_old report_new : Option (List ℕ)) (names : List (List ℕ)) (found : List FileIs) (world : WorldOf) : Type 0 where
   pub pieces : List Piece
-  pub are : AreFirst names found pieces
+  pub are : AreFirst names found world pieces
   pub number : length pieces ≡ count
   pub grew : Grew pieces [] [] text_old text_new report_old report_new
   pub refused_is : MatchBool refused (lines_of pieces ≢ []) (lines_of pieces ≡ [])
 
 -- the pieces of all files and the last one were told; the flag tells whether there is a line
-abbrev pub ToldAll : Bool → Option (List ℕ) → Option (List ℕ) → Option (List ℕ) → Option (List ℕ) → List (List ℕ) → List FileIs → Type 0
-ToldAll refused text_old text_new report_old report_new names found =
-    ToldFirst (length names + 1) refused text_old text_new report_old report_new names found
+abbrev pub ToldAll : Bool → Option (List ℕ) → Option (List ℕ) → Option (List ℕ) → Option (List ℕ) → List (List ℕ) → List FileIs → WorldOf → Type 0
+ToldAll refused text_old text_new report_old report_new names found world =
+    ToldFirst (length names + 1) refused text_old text_new report_old report_new names found world
 
 -- some first pieces were told, whole, and nothing besides
-abbrev pub ToldSome : Option (List ℕ) → Option (List ℕ) → Option (List ℕ) → Option (List ℕ) → List (List ℕ) → List FileIs → Type 0
-ToldSome text_old text_new report_old report_new names found =
-    (count : ℕ) × (refused : Bool) × ToldFirst count refused text_old text_new report_old report_new names found
+abbrev pub ToldSome : Option (List ℕ) → Option (List ℕ) → Option (List ℕ) → Option (List ℕ) → List (List ℕ) → List FileIs → WorldOf → Type 0
+ToldSome text_old text_new report_old report_new names found world =
+    (count : ℕ) × (refused : Bool) × ToldFirst count refused text_old text_new report_old report_new names found world
 
 -- where telling a piece was cut off
 pub data Cut : Type 0 where
@@ -165,21 +166,22 @@ Front InText piece text lines = (count : ℕ) × (text ≡ take count piece.text
 Front InLines piece text lines = (count : ℕ) × (text ≡ piece.text) × (lines ≡ take count piece.lines)
 
 -- some first pieces were told, whole, of the next one a front, and nothing besides
-pub record ToldFront (cut : Cut) (text_old text_new report_old report_new : Option (List ℕ)) (names : List (List ℕ)) (found : List FileIs) : Type 0 where
+pub record ToldFront (cut : Cut) (text_old text_new report_old report_new : Option (List ℕ)) (names : List (List ℕ)) (found : List FileIs) (world : WorldOf) : Type 0 where
   pub pieces : List Piece
-  pub are : AreFirst names found pieces
+  pub are : AreFirst names found world pieces
   pub next : Piece
-  pub is_next : IsNext names found pieces next
+  pub is_next : IsNext names found world pieces next
   pub text : List ℕ
   pub lines : List ℕ
   pub front : Front cut next text lines
   pub grew : Grew pieces text lines text_old text_new report_old report_new
 
--- so much was told of some files, which are those of these names where the files tell what they hold
-pub record OfFiles (held : Option Files) (names : List (List ℕ)) (Told : List (List ℕ) → List FileIs → Type 0) : Type 0 where
+-- so much was told of files and of the world that they make; they are those of these names where the files tell what they hold
+pub record OfFiles (held : Option Files) (names : List (List ℕ)) (Told : List (List ℕ) → List FileIs → WorldOf → Type 0) : Type 0 where
   pub found : List FileIs
-  pub setting : IfSome held (λ files. Setting files names found)
-  pub told : Told names found
+  pub world : WorldOf
+  pub setting : Setting held names found world
+  pub told : Told names found world
 
 -- a run that wanted memory had put nothing, or some first pieces, whole
 abbrev pub StopsForMemory : Option Files → List (List ℕ) → Option (List ℕ) → Option (List ℕ) → Option (List ℕ) → Option (List ℕ) → Type 0

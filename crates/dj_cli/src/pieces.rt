@@ -2,6 +2,7 @@
 
 ghost use Rattle.std.specs.Prelude.{◌≡◌, ◌<◌, All, IfOk};
 ghost use Rattle.dj_class.specs.Views.{view_class};
+ghost use Rattle.dj_world.specs.Worlds.{WorldOf};
 ghost use Rattle.dj_unit.specs.ClassPart.{IsClassPart};
 ghost use Rattle.dj_cli.specs.Output.{PrintsClass};
 ghost use Rattle.dj_cli.specs.Pieces.{piece_of, piece_of_parts};
@@ -29,7 +30,7 @@ pub struct ClassPiece<'a> {
 /// What is told of a class.
 pub fn piece_of_class(alloc: Global, class: &ClassFile) -> Result<ClassPiece<'_>, AllocError>
     requires part { IsClassPart (view_class class.now) }
-    ensures printed { IfOk result (λ piece. PrintsClass (view_class class.now) (piece_of class.now.this_class piece)) }
+    ensures printed { (world : WorldOf) → IfOk result (λ piece. PrintsClass world (view_class class.now) (piece_of class.now.this_class piece)) }
 {
     let Judgement { texts, lines } = judge_methods(alloc, class)?;
     let unit = class_unit(alloc, class, texts)?;

@@ -15,7 +15,7 @@ ghost use Rattle.dj_load.specs.Loading.{all_found};
 ghost use Rattle.dj_cli.specs.Run.{EndsSo};
 
 use crate::telling::{TellStop, tell_files};
-use dj_load::{Found, LoadStop, load_files, read_files};
+use dj_load::{FoundFiles, LoadStop, load_files, read_files};
 use dj_outer::{Files, Sink};
 use dj_report::{Status, WordsFault, much_line, read_line, read_words, usage_line};
 use std::alloc::{AllocError, Global};
@@ -35,21 +35,21 @@ fn last_line<P: Sink>(report: &mut P, line: &[u8], status: Status) -> Status
 fn tell<T: Sink, P: Sink>(
     alloc: Global,
     named: &[String],
-    found: &[Found],
+    files: &FoundFiles,
     text: &mut T,
     report: &mut P,
 ) -> Result<Status, AllocError>
-    requires number { length found.now ≡ length named.now }
-    ensures clean { OnClean result (ToldAll false (T.taken text.old) (T.taken text.new) (P.taken report.old) (P.taken report.new) (map string_bytes named.now) (all_found found.now)) }
-    ensures refused { OnRefused result (ToldAll true (T.taken text.old) (T.taken text.new) (P.taken report.old) (P.taken report.new) (map string_bytes named.now) (all_found found.now)) }
+    requires number { length files.now.found.items ≡ length named.now }
+    ensures clean { OnClean result (ToldAll false (T.taken text.old) (T.taken text.new) (P.taken report.old) (P.taken report.new) (map string_bytes named.now) (all_found files.now.found.items) files.now.world) }
+    ensures refused { OnRefused result (ToldAll true (T.taken text.old) (T.taken text.new) (P.taken report.old) (P.taken report.new) (map string_bytes named.now) (all_found files.now.found.items) files.now.world) }
     ensures text_rose { OnTextFault result (Rose (T.faults text.old) (T.faults text.new)) }
-    ensures text_fault { OnTextFault result (ToldFront InText (T.taken text.old) (T.taken text.new) (P.taken report.old) (P.taken report.new) (map string_bytes named.now) (all_found found.now)) }
+    ensures text_fault { OnTextFault result (ToldFront InText (T.taken text.old) (T.taken text.new) (P.taken report.old) (P.taken report.new) (map string_bytes named.now) (all_found files.now.found.items) files.now.world) }
     ensures report_rose { OnReportFault result (Rose (P.faults report.old) (P.faults report.new)) }
-    ensures report_fault { OnReportFault result (ToldFront InLines (T.taken text.old) (T.taken text.new) (P.taken report.old) (P.taken report.new) (map string_bytes named.now) (all_found found.now)) }
-    ensures memory { OnErr result (ToldSome (T.taken text.old) (T.taken text.new) (P.taken report.old) (P.taken report.new) (map string_bytes named.now) (all_found found.now)) }
+    ensures report_fault { OnReportFault result (ToldFront InLines (T.taken text.old) (T.taken text.new) (P.taken report.old) (P.taken report.new) (map string_bytes named.now) (all_found files.now.found.items) files.now.world) }
+    ensures memory { OnErr result (ToldSome (T.taken text.old) (T.taken text.new) (P.taken report.old) (P.taken report.new) (map string_bytes named.now) (all_found files.now.found.items) files.now.world) }
     ensures no_other { MatchEnd result ⊤ ⊤ (λ _. ⊥) (λ _. ⊥) ⊤ ⊤ (λ _. ⊥) }
 {
-    match tell_files(alloc, named, found, text, report) {
+    match tell_files(alloc, named, files, text, report) {
         Ok(false) => Ok(Status::Clean),
         Ok(true) => Ok(Status::Refused),
         Err(TellStop::Text) => Ok(Status::TextFault),
@@ -66,7 +66,6 @@ fn print_files<F: Files, T: Sink, P: Sink>(
     text: &mut T,
     report: &mut P,
 ) -> Result<Status, AllocError>
-    requires few { length named.now ≤ 4096 }
     ensures clean { OnClean result (OfFiles (F.held files.old) (map string_bytes named.now) (ToldAll false (T.taken text.old) (T.taken text.new) (P.taken report.old) (P.taken report.new))) }
     ensures refused { OnRefused result (OfFiles (F.held files.old) (map string_bytes named.now) (ToldAll true (T.taken text.old) (T.taken text.new) (P.taken report.old) (P.taken report.new))) }
     ensures usage { IfUsage result (λ kind. ⊥) }
@@ -89,7 +88,7 @@ fn print_files<F: Files, T: Sink, P: Sink>(
     match load_files(alloc, named, files) {
         Ok(contents) => {
             let found = read_files(alloc, contents.as_slice())?;
-            tell(alloc, named, found.as_slice(), text, report)
+            tell(alloc, named, &found, text, report)
         }
         Err(LoadStop::Fault(place)) => {
             let line = read_line(alloc, place)?;
@@ -105,8 +104,8 @@ fn print_files<F: Files, T: Sink, P: Sink>(
 
 /// Prints each class file that the words name as Java to `text`, and a line for each refusal to `report`.
 ///
-/// The first word is the program's name. Files are loaded in order and read, and then the text of each is
-/// put before its lines. After Usage, ReadFault and TooMuch one last line is put. Want of memory may come
+/// The first word is the program's name. Files are loaded in order, read, and added to the world, into which the
+/// core classes are filled; and then the text of each is put before its lines. After Usage, ReadFault and TooMuch one last line is put. Want of memory may come
 /// instead of any answer.
 pub fn run<F: Files, T: Sink, P: Sink>(
     alloc: Global,

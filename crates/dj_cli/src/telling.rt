@@ -5,22 +5,24 @@ ghost use Rattle.std.specs.String.{string_bytes};
 ghost use Rattle.dj_outer.specs.Count.{Rose};
 ghost use Rattle.dj_outer.specs.Sink.{Puts};
 ghost use Rattle.dj_class.specs.Views.{view_class};
+ghost use Rattle.dj_world.specs.Worlds.{WorldOf};
 ghost use Rattle.dj_unit.specs.ClassPart.{IsClassPart};
 ghost use Rattle.dj_load.specs.Loading.{all_found, found_of};
 ghost use Rattle.dj_cli.specs.Methods.{lines_bytes};
 ghost use Rattle.dj_cli.specs.Output.{InLines, InText, IsClassPiece, IsFilePiece, ToldAll, ToldFront, ToldSome};
-ghost use Rattle.dj_load.specs.HeldFiles.{IsBroken};
+ghost use Rattle.dj_load.specs.HeldFiles.{IsBroken, IsClash};
 ghost use Rattle.dj_cli.specs.Pieces.{text_bytes};
 ghost use Rattle.dj_cli.specs.Telling.{StoppedTelling, StopsPiece, TellsPiece};
 
 use crate::methods::MethodLine;
 use crate::pieces::{ClassPiece, piece_of_class};
 use dj_class::{BrokenKind, ClassFile};
-use dj_load::Found;
+use dj_load::{Found, FoundFiles};
 use dj_names::ClassName;
 use dj_outer::{Failed, Sink};
-use dj_report::{broken_line, put_class_line, put_method_line, put_piece};
+use dj_report::{broken_line, clash_line, put_class_line, put_method_line, put_piece};
 use dj_unit::is_class_part;
+use dj_world::ClashKind;
 use std::alloc::{AllocError, Global};
 
 /// Why not everything was told.
@@ -78,8 +80,8 @@ fn tell_printed<T: Sink, P: Sink>(
     report: &mut P,
 ) -> Result<bool, TellStop>
     requires part { IsClassPart (view_class class.now) }
-    ensures told { IfOk result (λ refused. TellsPiece (IsClassPiece (view_class class.now)) refused (T.taken text.old) (T.taken text.new) (P.taken report.old) (P.taken report.new)) }
-    ensures stopped { IfErr result (λ stop. StopsPiece (IsClassPiece (view_class class.now)) stop (T.taken text.old) (T.taken text.new) (P.taken report.old) (P.taken report.new)) }
+    ensures told { (world : WorldOf) → IfOk result (λ refused. TellsPiece (IsClassPiece world (view_class class.now)) refused (T.taken text.old) (T.taken text.new) (P.taken report.old) (P.taken report.new)) }
+    ensures stopped { (world : WorldOf) → IfErr result (λ stop. StopsPiece (IsClassPiece world (view_class class.now)) stop (T.taken text.old) (T.taken text.new) (P.taken report.old) (P.taken report.new)) }
     ensures failed { IfErr result (λ stop. StoppedTelling stop (Rose (T.faults text.old) (T.faults text.new)) (Rose (P.faults report.old) (P.faults report.new)) (Unit {0})) }
 
     // What the call leaves.
@@ -99,8 +101,8 @@ fn tell_printed<T: Sink, P: Sink>(
 /// Tells the line on a class of which nothing is printed yet; that it has a line.
 fn tell_not_yet<P: Sink>(class: &ClassFile, report: &mut P) -> Result<bool, TellStop>
     requires other { ¬ IsClassPart (view_class class.now) }
-    ensures told { (text : Option (List ℕ)) → IfOk result (λ refused. TellsPiece (IsClassPiece (view_class class.now)) refused text text (P.taken report.old) (P.taken report.new)) }
-    ensures stopped { (text : Option (List ℕ)) → IfErr result (λ stop. StopsPiece (IsClassPiece (view_class class.now)) stop text text (P.taken report.old) (P.taken report.new)) }
+    ensures told { (world : WorldOf) (text : Option (List ℕ)) → IfOk result (λ refused. TellsPiece (IsClassPiece world (view_class class.now)) refused text text (P.taken report.old) (P.taken report.new)) }
+    ensures stopped { (world : WorldOf) (text : Option (List ℕ)) → IfErr result (λ stop. StopsPiece (IsClassPiece world (view_class class.now)) stop text text (P.taken report.old) (P.taken report.new)) }
     ensures failed { IfErr result (λ stop. StoppedTelling stop ⊥ (Rose (P.faults report.old) (P.faults report.new)) (Unit {0})) }
     ensures report_falls { P.faults report.old ≤ P.faults report.new }
 {
@@ -117,8 +119,8 @@ fn tell_class<T: Sink, P: Sink>(
     text: &mut T,
     report: &mut P,
 ) -> Result<bool, TellStop>
-    ensures told { IfOk result (λ refused. TellsPiece (IsClassPiece (view_class class.now)) refused (T.taken text.old) (T.taken text.new) (P.taken report.old) (P.taken report.new)) }
-    ensures stopped { IfErr result (λ stop. StopsPiece (IsClassPiece (view_class class.now)) stop (T.taken text.old) (T.taken text.new) (P.taken report.old) (P.taken report.new)) }
+    ensures told { (world : WorldOf) → IfOk result (λ refused. TellsPiece (IsClassPiece world (view_class class.now)) refused (T.taken text.old) (T.taken text.new) (P.taken report.old) (P.taken report.new)) }
+    ensures stopped { (world : WorldOf) → IfErr result (λ stop. StopsPiece (IsClassPiece world (view_class class.now)) stop (T.taken text.old) (T.taken text.new) (P.taken report.old) (P.taken report.new)) }
     ensures failed { IfErr result (λ stop. StoppedTelling stop (Rose (T.faults text.old) (T.faults text.new)) (Rose (P.faults report.old) (P.faults report.new)) (Unit {0})) }
 
     // What the call leaves.
@@ -140,12 +142,31 @@ fn tell_broken<P: Sink>(
     offset: u32,
     report: &mut P,
 ) -> Result<bool, TellStop>
-    ensures told { (text : Option (List ℕ)) → IfOk result (λ refused. TellsPiece (IsFilePiece path.now (IsBroken kind offset)) refused text text (P.taken report.old) (P.taken report.new)) }
-    ensures stopped { (text : Option (List ℕ)) → IfErr result (λ stop. StopsPiece (IsFilePiece path.now (IsBroken kind offset)) stop text text (P.taken report.old) (P.taken report.new)) }
+    ensures told { (world : WorldOf) (text : Option (List ℕ)) → IfOk result (λ refused. TellsPiece (IsFilePiece world path.now (IsBroken kind offset)) refused text text (P.taken report.old) (P.taken report.new)) }
+    ensures stopped { (world : WorldOf) (text : Option (List ℕ)) → IfErr result (λ stop. StopsPiece (IsFilePiece world path.now (IsBroken kind offset)) stop text text (P.taken report.old) (P.taken report.new)) }
     ensures failed { IfErr result (λ stop. StoppedTelling stop ⊥ (Rose (P.faults report.old) (P.faults report.new)) (Unit {0})) }
     ensures report_falls { P.faults report.old ≤ P.faults report.new }
 {
     let line = broken_line(alloc, path, kind, offset)?;
+    match put_piece(report, line.as_slice()) {
+        Ok(()) => Ok(true),
+        Err(Failed) => Err(TellStop::Report),
+    }
+}
+
+/// Tells the line on a file whose class clashes with those before it; that it has a line.
+fn tell_clash<P: Sink>(
+    alloc: Global,
+    path: &str,
+    kind: ClashKind,
+    report: &mut P,
+) -> Result<bool, TellStop>
+    ensures told { (world : WorldOf) (text : Option (List ℕ)) → IfOk result (λ refused. TellsPiece (IsFilePiece world path.now (IsClash kind)) refused text text (P.taken report.old) (P.taken report.new)) }
+    ensures stopped { (world : WorldOf) (text : Option (List ℕ)) → IfErr result (λ stop. StopsPiece (IsFilePiece world path.now (IsClash kind)) stop text text (P.taken report.old) (P.taken report.new)) }
+    ensures failed { IfErr result (λ stop. StoppedTelling stop ⊥ (Rose (P.faults report.old) (P.faults report.new)) (Unit {0})) }
+    ensures report_falls { P.faults report.old ≤ P.faults report.new }
+{
+    let line = clash_line(alloc, path, kind)?;
     match put_piece(report, line.as_slice()) {
         Ok(()) => Ok(true),
         Err(Failed) => Err(TellStop::Report),
@@ -160,8 +181,8 @@ fn tell_file<T: Sink, P: Sink>(
     text: &mut T,
     report: &mut P,
 ) -> Result<bool, TellStop>
-    ensures told { IfOk result (λ refused. TellsPiece (IsFilePiece path.now (found_of found.now)) refused (T.taken text.old) (T.taken text.new) (P.taken report.old) (P.taken report.new)) }
-    ensures stopped { IfErr result (λ stop. StopsPiece (IsFilePiece path.now (found_of found.now)) stop (T.taken text.old) (T.taken text.new) (P.taken report.old) (P.taken report.new)) }
+    ensures told { (world : WorldOf) → IfOk result (λ refused. TellsPiece (IsFilePiece world path.now (found_of found.now)) refused (T.taken text.old) (T.taken text.new) (P.taken report.old) (P.taken report.new)) }
+    ensures stopped { (world : WorldOf) → IfErr result (λ stop. StopsPiece (IsFilePiece world path.now (found_of found.now)) stop (T.taken text.old) (T.taken text.new) (P.taken report.old) (P.taken report.new)) }
     ensures failed { IfErr result (λ stop. StoppedTelling stop (Rose (T.faults text.old) (T.faults text.new)) (Rose (P.faults report.old) (P.faults report.new)) (Unit {0})) }
 
     // What the call leaves.
@@ -170,6 +191,7 @@ fn tell_file<T: Sink, P: Sink>(
 {
     match found {
         Found::Class(class) => tell_class(alloc, class, text, report),
+        Found::Clash(kind) => tell_clash(alloc, path, *kind, report),
         Found::Broken { kind, offset } => tell_broken(alloc, path, *kind, *offset, report),
     }
 }
@@ -178,13 +200,13 @@ fn tell_file<T: Sink, P: Sink>(
 pub fn tell_files<T: Sink, P: Sink>(
     alloc: Global,
     named: &[String],
-    found: &[Found],
+    files: &FoundFiles,
     text: &mut T,
     report: &mut P,
 ) -> Result<bool, TellStop>
-    requires number { length found.now ≡ length named.now }
-    ensures told { IfOk result (λ refused. ToldAll refused (T.taken text.old) (T.taken text.new) (P.taken report.old) (P.taken report.new) (map string_bytes named.now) (all_found found.now)) }
-    ensures stopped { IfErr result (λ stop. StoppedTelling stop (ToldFront InText (T.taken text.old) (T.taken text.new) (P.taken report.old) (P.taken report.new) (map string_bytes named.now) (all_found found.now)) (ToldFront InLines (T.taken text.old) (T.taken text.new) (P.taken report.old) (P.taken report.new) (map string_bytes named.now) (all_found found.now)) (ToldSome (T.taken text.old) (T.taken text.new) (P.taken report.old) (P.taken report.new) (map string_bytes named.now) (all_found found.now))) }
+    requires number { length files.now.found.items ≡ length named.now }
+    ensures told { IfOk result (λ refused. ToldAll refused (T.taken text.old) (T.taken text.new) (P.taken report.old) (P.taken report.new) (map string_bytes named.now) (all_found files.now.found.items) files.now.world) }
+    ensures stopped { IfErr result (λ stop. StoppedTelling stop (ToldFront InText (T.taken text.old) (T.taken text.new) (P.taken report.old) (P.taken report.new) (map string_bytes named.now) (all_found files.now.found.items) files.now.world) (ToldFront InLines (T.taken text.old) (T.taken text.new) (P.taken report.old) (P.taken report.new) (map string_bytes named.now) (all_found files.now.found.items) files.now.world) (ToldSome (T.taken text.old) (T.taken text.new) (P.taken report.old) (P.taken report.new) (map string_bytes named.now) (all_found files.now.found.items) files.now.world)) }
     ensures failed { IfErr result (λ stop. StoppedTelling stop (Rose (T.faults text.old) (T.faults text.new)) (Rose (P.faults report.old) (P.faults report.new)) (Unit {0})) }
 
     // What the call leaves.
@@ -193,7 +215,7 @@ pub fn tell_files<T: Sink, P: Sink>(
 {
     let mut refused = false;
     for place in 0..named.len() {
-        let one = tell_file(alloc, named[place].as_str(), &found[place], text, report)?;
+        let one = tell_file(alloc, named[place].as_str(), &files.found[place], text, report)?;
         refused |= one;
     }
     Ok(refused)

@@ -1,30 +1,31 @@
-//! The files of an order: loaded by name, and read.
+//! The files of an order, loaded by name.
 
-ghost use Rattle.std.specs.Prelude.{◌≡◌, ◌≤◌, ◌<◌, ◌++◌, length, map, IfSome, IfOk, OnOk, IfErr};
-ghost use Rattle.std.specs.List.{AllZip};
+ghost use Rattle.std.specs.Prelude.{◌≡◌, ◌≤◌, ◌<◌, ◌+◌, ◌⊎◌, length, map, IfSome, IfOk, OnOk, IfErr};
 ghost use Rattle.std.specs.String.{string_bytes};
 ghost use Rattle.dj_outer.specs.Count.{Rose};
 ghost use Rattle.dj_outer.specs.Files.{HasFile, with_asked};
-ghost use Rattle.dj_load.specs.HeldFiles.{AreContents, IsFile, most_bytes};
+ghost use Rattle.dj_load.specs.HeldFiles.{AreContents, most_bytes, most_files, most_together};
 ghost use Rattle.dj_load.specs.Loads.{AsksFront, IsTooMuch, ReadFails, asked_with};
-ghost use Rattle.dj_load.specs.Loading.{Stopped, StoppedAt, all_found, contents_of, found_of};
+ghost use Rattle.dj_load.specs.Loading.{Stopped, StoppedAt, contents_of};
 
-use dj_class::{BrokenKind, ClassFault, ClassFile, read_class};
 use dj_outer::{Files, LoadFault, Loaded};
 use std::alloc::{AllocError, AllocFailed, Global};
 
 /// The most bytes that a file may have.
 const MOST_BYTES: usize = 16_777_216;
 
-/// The oldest major version that is read, that of Java SE 6.
-const OLDEST: u16 = 50;
+/// The most bytes that all files together may have.
+const MOST_TOGETHER: usize = 268_435_456;
+
+/// The most files that may be named.
+const MOST_FILES: u32 = 4096;
 
 /// Why not all files were loaded.
 #[derive(Drop)]
 pub enum LoadStop {
     /// The load at this place failed.
     Fault(u32),
-    /// The file at this place is too large.
+    /// The file at this place is too large, or is with those before it, or there are too many.
     Over(u32),
     Memory(AllocError),
 }
@@ -40,24 +41,32 @@ impl<T: Drop> From<AllocFailed<T>> for LoadStop {
     }
 }
 
-/// The bytes of the file of this name, which stands at this place.
+/// The bytes of the file of this name, which stands at this place, behind files of so many bytes together.
 fn load_one<F: Files>(
     alloc: Global,
     files: &mut F,
     name: &str,
     place: u32,
+    used: usize,
 ) -> Result<Vec<u8>, LoadStop>
+    requires room { used ≤ most_together }
     ensures loaded { IfOk result (λ bytes. HasFile (F.held files.old) name.now (λ file. file ≡ bytes.items)) }
     ensures small { IfOk result (λ bytes. length bytes.items ≤ most_bytes) }
+    ensures together { IfOk result (λ bytes. used + length bytes.items ≤ most_together) }
     ensures asked { OnOk result (F.asked files.new ≡ with_asked (F.asked files.old) name.now) }
-    ensures stopped { IfErr result (λ stop. StoppedAt place stop (Rose (F.faults files.old) (F.faults files.new)) (HasFile (F.held files.old) name.now (λ file. most_bytes < length file)) (F.asked files.new ≡ with_asked (F.asked files.old) name.now) (F.asked files.new ≡ F.asked files.old)) }
+    ensures stopped { IfErr result (λ stop. StoppedAt place stop (Rose (F.faults files.old) (F.faults files.new)) (HasFile (F.held files.old) name.now (λ file. (most_bytes < length file) ⊎ (most_together < used + length file))) (F.asked files.new ≡ with_asked (F.asked files.old) name.now) (F.asked files.new ≡ F.asked files.old)) }
 
     // What the call leaves.
     ensures kept { F.held files.new ≡ F.held files.old }
     ensures never_falls { F.faults files.old ≤ F.faults files.new }
 {
     match files.load(alloc, name, MOST_BYTES) {
-        Ok(Loaded::Whole(bytes)) => Ok(bytes),
+        Ok(Loaded::Whole(bytes)) => {
+            if bytes.len() > MOST_TOGETHER - used {
+                return Err(LoadStop::Over(place));
+            }
+            Ok(bytes)
+        }
         Ok(Loaded::Over) => Err(LoadStop::Over(place)),
         Err(LoadFault::Failed) => Err(LoadStop::Fault(place)),
         Err(LoadFault::Memory(error)) => Err(LoadStop::Memory(error)),
@@ -70,9 +79,9 @@ pub fn load_files<F: Files>(
     named: &[String],
     files: &mut F,
 ) -> Result<Vec<Vec<u8>>, LoadStop>
-    requires few { length named.now ≤ 4096 }
     ensures loaded { IfOk result (λ contents. IfSome (F.held files.old) (λ held. AreContents held (map string_bytes named.now) (contents_of contents.items))) }
     ensures number { IfOk result (λ contents. length contents.items ≡ length named.now) }
+    ensures few { OnOk result (length named.now ≤ most_files) }
     ensures asked_all { OnOk result (F.asked files.new ≡ asked_with (F.asked files.old) (map string_bytes named.now)) }
     ensures stopped { IfErr result (λ stop. Stopped stop (ReadFails (F.held files.old) (map string_bytes named.now) (F.asked files.old) (F.asked files.new) (F.faults files.old) (F.faults files.new)) (IsTooMuch (F.held files.old) (map string_bytes named.now) (F.asked files.old) (F.asked files.new))) }
 
@@ -83,40 +92,15 @@ pub fn load_files<F: Files>(
 {
     let mut contents = Vec::new(alloc);
     let mut place: u32 = 0;
+    let mut used: usize = 0;
     for name in named {
-        let bytes = load_one(alloc, files, name.as_str(), place)?;
+        if place == MOST_FILES {
+            return Err(LoadStop::Over(place));
+        }
+        let bytes = load_one(alloc, files, name.as_str(), place, used)?;
+        used += bytes.len();
         contents.push(bytes)?;
         place += 1;
     }
     Ok(contents)
-}
-
-/// What is found of a file.
-#[derive(Drop)]
-pub enum Found {
-    Class(ClassFile),
-    /// What is wrong with it first, and at which offset.
-    Broken { kind: BrokenKind, offset: u32 },
-}
-
-/// What the bytes of a file are.
-fn read_file(alloc: Global, bytes: &[u8]) -> Result<Found, AllocError>
-    ensures read { IfOk result (λ found. IsFile bytes.now (found_of found)) }
-{
-    match read_class(alloc, bytes, OLDEST) {
-        Ok(class) => Ok(Found::Class(class)),
-        Err(ClassFault::Broken { kind, offset }) => Ok(Found::Broken { kind, offset }),
-        Err(ClassFault::Memory(error)) => Err(error),
-    }
-}
-
-/// What each file is.
-pub fn read_files(alloc: Global, contents: &[Vec<u8>]) -> Result<Vec<Found>, AllocError>
-    ensures read { IfOk result (λ found. AllZip IsFile (contents_of contents.now) (all_found found.items)) }
-{
-    let mut found = Vec::new(alloc);
-    for bytes in contents {
-        found.push(read_file(alloc, bytes.as_slice())?)?;
-    }
-    Ok(found)
 }

@@ -11,17 +11,21 @@ use Rattle.dj_pool.specs.declared.fault.BrokenKind.{BrokenKind}
 use Rattle.dj_pool.specs.declared.fault.BrokenKind.TheVariants as broken
 use Rattle.dj_instructions.specs.declared.kinds.BadKind.{BadKind}
 use Rattle.dj_instructions.specs.declared.kinds.BadKind.TheVariants as bad
+use Rattle.dj_world.specs.declared.fault.ClashKind.{ClashKind}
+use Rattle.dj_world.specs.declared.fault.ClashKind.TheVariants as clash
 use Rattle.dj_report.specs.declared.status.UsageKind.{UsageKind}
 use Rattle.dj_report.specs.declared.status.UsageKind.TheVariants as kind
 
 -- a line of the report: on a class by its name, on a method by its class's name, its own name and its
 -- descriptor, with an offset in its code and, where its code is bad, with what is wrong there, on a file that
--- is broken by its path, with what is wrong and an offset, on the words, and on a file by its place
+-- is broken by its path, with what is wrong and an offset, on one whose class clashes with others by its path,
+-- with how, on the words, and on a file by its place
 pub data Line : Type 0 where
   NotYetClass : List ℕ → Line
   NotYetMethod : List ℕ → List ℕ → Descriptor → ℕ → Line
   BadMethod : List ℕ → List ℕ → Descriptor → BadKind → ℕ → Line
   Broken : List ℕ → BrokenKind → ℕ → Line
+  Clash : List ℕ → ClashKind → Line
   Usage : UsageKind → Line
   Read : ℕ → Line
   Much : ℕ → Line
@@ -50,6 +54,13 @@ broken_text broken.Trailing = codes "Trailing"
 broken_text broken.Attribute = codes "Attribute"
 broken_text broken.Flags = codes "Flags"
 
+-- the word for how a class clashes with others
+abbrev pub clash_text : ClashKind → List ℕ
+clash_text clash.Twice = codes "Twice"
+clash_text clash.Cycle = codes "Cycle"
+clash_text clash.SuperIsFinal = codes "SuperIsFinal"
+clash_text clash.SuperKind = codes "SuperKind"
+
 -- the word for what is wrong with a method's code
 abbrev pub bad_text : BadKind → List ℕ
 bad_text bad.Opcode = codes "Opcode"
@@ -77,6 +88,7 @@ line_text (NotYetMethod class name descriptor pc) = shown_method class name desc
 line_text (BadMethod class name descriptor kind pc) = shown_method class name descriptor ++ bad_tail kind pc
 line_text (Broken path kind offset) =
     show_units (path_units path) ++ codes " broken " ++ broken_text kind ++ codes " " ++ decimal offset ++ 10 ∷ []
+line_text (Clash path kind) = show_units (path_units path) ++ codes " clash " ++ clash_text kind ++ 10 ∷ []
 line_text (Usage kind) = codes "usage " ++ kind_text kind ++ 10 ∷ []
 line_text (Read place) = codes "read " ++ decimal place ++ 10 ∷ []
 line_text (Much place) = codes "much " ++ decimal place ++ 10 ∷ []

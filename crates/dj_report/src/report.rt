@@ -3,7 +3,7 @@
 ghost use Rattle.std.specs.Prelude.{◌≡◌, ◌++◌, IfOk, string_bytes};
 ghost use Rattle.dj_names.specs.Types.{view_descriptor};
 ghost use Rattle.dj_outer.specs.Sink.{Puts};
-ghost use Rattle.dj_report.specs.Report.{Line, bad_tail, bad_text, broken_text, kind_text, line_text, not_yet_tail, path_units, shown_method};
+ghost use Rattle.dj_report.specs.Report.{Line, bad_tail, bad_text, broken_text, clash_text, kind_text, line_text, not_yet_tail, path_units, shown_method};
 
 use crate::putting::{put_descriptor, put_piece, put_units};
 use crate::status::UsageKind;
@@ -11,6 +11,7 @@ use dj_instructions::BadKind;
 use dj_names::{ClassName, Descriptor, Units};
 use dj_outer::{Failed, Sink};
 use dj_pool::BrokenKind;
+use dj_world::ClashKind;
 use std::alloc::{AllocError, Global};
 
 /// The UTF-16 units of a path.
@@ -55,6 +56,27 @@ pub fn broken_line(
     let path = path_units(alloc, path)?;
     let kind = broken_text(kind);
     Ok(format!(in alloc; "{path} broken {kind} {offset}\n")?.into_bytes())
+}
+
+/// The word for how a class clashes with others.
+fn clash_text(kind: ClashKind) -> &'static str
+    ensures text { result.now ≡ clash_text kind }
+{
+    match kind {
+        ClashKind::Twice => "Twice",
+        ClashKind::Cycle => "Cycle",
+        ClashKind::SuperIsFinal => "SuperIsFinal",
+        ClashKind::SuperKind => "SuperKind",
+    }
+}
+
+/// The line on a file of this path whose class clashes with those before it.
+pub fn clash_line(alloc: Global, path: &str, kind: ClashKind) -> Result<Vec<u8>, AllocError>
+    ensures line { IfOk result (λ line. line.items ≡ line_text (Line.Clash path.now kind)) }
+{
+    let path = path_units(alloc, path)?;
+    let kind = clash_text(kind);
+    Ok(format!(in alloc; "{path} clash {kind}\n")?.into_bytes())
 }
 
 /// Puts the line on a class of which nothing is printed yet.

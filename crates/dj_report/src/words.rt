@@ -1,8 +1,8 @@
 //! What the words of the command line ask for.
 
-ghost use Rattle.std.specs.Prelude.{map};
+ghost use Rattle.std.specs.Prelude.{◌≡◌, map};
 ghost use Rattle.std.specs.String.{string_bytes};
-ghost use Rattle.dj_report.specs.Words.{Answers, order_of, file_order};
+ghost use Rattle.dj_report.specs.Words.{Answers, files_of, is_option, order_of};
 
 use crate::status::UsageKind;
 use std::alloc::{AllocError, AllocFailed, Global};
@@ -64,19 +64,27 @@ pub fn read_words(alloc: Global, words: &[String]) -> Result<Order, WordsFault>
 {
     match words {
         [] | [_] => Err(WordsFault::Usage(UsageKind::NoFile)),
-        [_, file] => one_file(alloc, file.as_str()),
-        [_, _, _, ..] => Err(WordsFault::Usage(UsageKind::Words)),
+        [_, files @ ..] => read_names(alloc, files),
     }
 }
 
-/// The order to print one file, unless its name looks like an option.
-fn one_file(alloc: Global, file: &str) -> Result<Order, WordsFault>
-    ensures order { Answers result (file_order file.now) }
+/// The order to print the files of these names, unless one looks like an option.
+fn read_names(alloc: Global, words: &[String]) -> Result<Order, WordsFault>
+    ensures order { Answers result (files_of (map string_bytes words.now)) }
 {
-    if file.as_bytes().first() == Some(&b'-') {
-        return Err(WordsFault::Usage(UsageKind::Words));
-    }
     let mut named = Vec::new(alloc);
-    named.push(String::from_str(alloc, file)?)?;
+    for word in words {
+        if is_option(word.as_str()) {
+            return Err(WordsFault::Usage(UsageKind::Words));
+        }
+        named.push(String::from_str(alloc, word.as_str())?)?;
+    }
     Ok(Order::Files { named })
+}
+
+/// Whether a word looks like an option.
+fn is_option(word: &str) -> bool
+    ensures option { result ≡ is_option word.now }
+{
+    word.as_bytes().first() == Some(&b'-')
 }
