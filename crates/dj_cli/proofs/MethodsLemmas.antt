@@ -3,6 +3,7 @@ use Rattle.std.proofs.Common.{◌≡◌, ℕ, ◌<◌, List, [], ◌∷◌, ◌+
 use Rattle.std.specs.List.{AllByRecursion}
 use Rattle.std.proofs.lemmas.List.{get_or-map, length-map}
 use Rattle.dj_class.specs.Described.{ClassOf, MethodOf}
+use Rattle.dj_world.specs.Worlds.{WorldOf}
 use Rattle.dj_syntax.specs.Trees.{Exp, Body, MethodText}
 use Rattle.dj_syntax.specs.WellFormed.{IsWellFormedMethod}
 use Rattle.dj_instructions.specs.declared.kinds.BadKind.{BadKind}
@@ -11,6 +12,7 @@ use Rattle.dj_straight.proofs.StraightShows.{straight_methods_show}
 use Rattle.dj_unit.specs.ClassText.{method_text, printed_methods}
 use Rattle.dj_report.specs.Report.{shown_method, bad_tail, not_yet_tail}
 use Rattle.dj_cli.specs.Output.{Verdict, Prints, Bad, NotYet, PrintsMethod, IsBadMethod, IsVerdict, AreVerdicts, body_of, bodies_of, method_line, method_lines}
+use Rattle.dj_load.specs.HeldFiles.{no_classes}
 use Rattle.dj_cli.specs.Methods.{AreJudged, IsLineOf, IsPrintOf}
 use Rattle.dj_cli.proofs.ClassTextLemmas.{method_well_formed}
 
@@ -20,20 +22,20 @@ AllByRecursion-push P (first ∷ front) last all this = (all.0, AllByRecursion-p
 
 -- ---- verdicts
 
-module _ (class : ClassOf) where
+module _ (world : WorldOf) (class : ClassOf) where
   -- a verdict more
-  verdicts-more : (before methods : List MethodOf) (verdicts : List Verdict) (method : MethodOf) (verdict : Verdict) → AreVerdicts class before methods verdicts
-      → IsVerdict class (before ++ methods) method verdict → AreVerdicts class before (methods ++ method ∷ []) (verdicts ++ verdict ∷ [])
+  verdicts-more : (before methods : List MethodOf) (verdicts : List Verdict) (method : MethodOf) (verdict : Verdict) → AreVerdicts world class before methods verdicts
+      → IsVerdict world class (before ++ methods) method verdict → AreVerdicts world class before (methods ++ method ∷ []) (verdicts ++ verdict ∷ [])
   verdicts-more before [] [] method verdict each this =
-      (subst (λ these. IsVerdict class these method verdict) (append-nil before) this, tt)
+      (subst (λ these. IsVerdict world class these method verdict) (append-nil before) this, tt)
   verdicts-more before [] (other ∷ verdicts) method verdict each this = absurd each
   verdicts-more before (other ∷ methods) [] method verdict each this = absurd each
   verdicts-more before (first ∷ methods) (one ∷ verdicts) method verdict each this =
-      let here = subst (λ these. IsVerdict class these method verdict) (sym (append_assoc before (first ∷ []) methods)) this in
+      let here = subst (λ these. IsVerdict world class these method verdict) (sym (append_assoc before (first ∷ []) methods)) this in
       (each.0, verdicts-more (before ++ first ∷ []) methods verdicts method verdict each.1 here)
 
   -- the methods that are printed, with a verdict more
-  printed-more : (before methods : List MethodOf) (verdicts : List Verdict) (method : MethodOf) (verdict : Verdict) → AreVerdicts class before methods verdicts
+  printed-more : (before methods : List MethodOf) (verdicts : List Verdict) (method : MethodOf) (verdict : Verdict) → AreVerdicts world class before methods verdicts
       → printed_methods (methods ++ method ∷ []) (bodies_of (verdicts ++ verdict ∷ [])) ≡ printed_methods methods (bodies_of verdicts) ++ printed_methods (method ∷ []) (bodies_of (verdict ∷ []))
   printed-more before [] [] method verdict each = refl
   printed-more before [] (other ∷ verdicts) method verdict each = absurd each
@@ -46,7 +48,7 @@ module _ (class : ClassOf) where
       ap (λ texts. method_text first body ∷ texts) (printed-more (before ++ first ∷ []) methods verdicts method verdict each.1)
 
   -- the lines, with a verdict more
-  lines-more : (before methods : List MethodOf) (verdicts : List Verdict) (method : MethodOf) (verdict : Verdict) → AreVerdicts class before methods verdicts
+  lines-more : (before methods : List MethodOf) (verdicts : List Verdict) (method : MethodOf) (verdict : Verdict) → AreVerdicts world class before methods verdicts
       → method_lines class (methods ++ method ∷ []) (verdicts ++ verdict ∷ []) ≡ method_lines class methods verdicts ++ method_line class method verdict
   lines-more before [] [] method verdict each = append-nil (method_line class method verdict)
   lines-more before [] (other ∷ verdicts) method verdict each = absurd each
@@ -56,19 +58,20 @@ module _ (class : ClassOf) where
       ∙ sym (append_assoc (method_line class first one) (method_lines class methods verdicts) (method_line class method verdict))
 
   -- a straight method is printed with the body that returns its expression
-  prints_straight : (before : List MethodOf) (method : MethodOf) (exp : Exp) (body : Body) → IsStraightMethod class before method exp → IsBodyOf class method exp body → PrintsMethod class before method body
+  prints_straight : (before : List MethodOf) (method : MethodOf) (exp : Exp) (body : Body) → IsStraightMethod class before method exp → IsBodyOf class method exp body → PrintsMethod world class before method body
   prints_straight before method exp body straight of_method = record {
     exp = exp;
     straight = straight;
     of_method = of_method;
-    shows = λ world members. straight_methods_show class before method exp body world members straight of_method;
+    shows = straight_methods_show class before method exp body world.headers world.members straight of_method;
   }
 
-  -- ---- methods judged
+-- ---- methods judged
 
+module _ (class : ClassOf) where
   -- no method
   pub judged_none : AreJudged class [] [] []
-  judged_none = record { verdicts = []; judged = tt; texts_are = refl; lines_are = refl; well_formed = tt }
+  judged_none = record { verdicts = []; judged = λ world. tt; texts_are = refl; lines_are = refl; well_formed = tt }
 
   -- and a straight one
   pub judged_text : (methods : List MethodOf) (method : MethodOf) (texts : List MethodText) (text : MethodText) (lines : List ℕ) → (method.flags ≡ 0x8) ⊎ (method.flags ≡ 0x9) → AreJudged class methods texts lines
@@ -76,13 +79,13 @@ module _ (class : ClassOf) where
   judged_text methods method texts text lines flags before print =
       let of_method = print.text_is in
       let verdict : Verdict = Prints of_method.body in
-      let prints : IsVerdict class methods method verdict = prints_straight methods method print.exp of_method.body print.straight of_method.of_method in
+      let prints : (world : WorldOf) → IsVerdict world class methods method verdict = λ world. prints_straight world class methods method print.exp of_method.body print.straight of_method.of_method in
       let well = method_well_formed class methods method print.exp of_method.body flags print.straight print.fits of_method.of_method in
       record {
         verdicts = before.verdicts ++ verdict ∷ [];
-        judged = verdicts-more [] methods before.verdicts method verdict before.judged prints;
-        texts_are = rw (before.texts_are, of_method.text_is) (sym (printed-more [] methods before.verdicts method verdict before.judged));
-        lines_are = before.lines_are ∙ sym (append-nil (method_lines class methods before.verdicts)) ∙ sym (lines-more [] methods before.verdicts method verdict before.judged);
+        judged = λ world. verdicts-more world class [] methods before.verdicts method verdict (before.judged world) (prints world);
+        texts_are = rw (before.texts_are, of_method.text_is) (sym (printed-more no_classes class [] methods before.verdicts method verdict (before.judged no_classes)));
+        lines_are = before.lines_are ∙ sym (append-nil (method_lines class methods before.verdicts)) ∙ sym (lines-more no_classes class [] methods before.verdicts method verdict (before.judged no_classes));
         well_formed = rw of_method.text_is (AllByRecursion-push (IsWellFormedMethod false false class.this_class) texts (method_text method of_method.body) before.well_formed well);
       }
 
@@ -99,19 +102,19 @@ module _ (class : ClassOf) where
       let verdict = line.verdict in
       record {
         verdicts = before.verdicts ++ verdict ∷ [];
-        judged = verdicts-more [] methods before.verdicts method verdict before.judged line.is_verdict;
-        texts_are = before.texts_are ∙ sym (append-nil (printed_methods methods (bodies_of before.verdicts))) ∙ ap (λ these. printed_methods methods (bodies_of before.verdicts) ++ these) (sym (none_printed method verdict line.no_body)) ∙ sym (printed-more [] methods before.verdicts method verdict before.judged);
-        lines_are = ap (λ these. these ++ (shown_method class.this_class method.name method.descriptor ++ tail)) before.lines_are ∙ ap (λ these. method_lines class methods before.verdicts ++ these) (sym line.line_is) ∙ sym (lines-more [] methods before.verdicts method verdict before.judged);
+        judged = λ world. verdicts-more world class [] methods before.verdicts method verdict (before.judged world) (line.is_verdict world);
+        texts_are = before.texts_are ∙ sym (append-nil (printed_methods methods (bodies_of before.verdicts))) ∙ ap (λ these. printed_methods methods (bodies_of before.verdicts) ++ these) (sym (none_printed method verdict line.no_body)) ∙ sym (printed-more no_classes class [] methods before.verdicts method verdict (before.judged no_classes));
+        lines_are = ap (λ these. these ++ (shown_method class.this_class method.name method.descriptor ++ tail)) before.lines_are ∙ ap (λ these. method_lines class methods before.verdicts ++ these) (sym line.line_is) ∙ sym (lines-more no_classes class [] methods before.verdicts method verdict (before.judged no_classes));
         well_formed = before.well_formed;
       }
 
   -- ---- the ends of lines
 
   pub bad_line : (before : List MethodOf) (method : MethodOf) (kind : BadKind) (pc : ℕ) (tail : List ℕ) → IsBadMethod class method kind pc → tail ≡ bad_tail kind pc → IsLineOf class before method tail
-  bad_line before method kind pc tail bad is = record { verdict = Bad kind pc; is_verdict = bad; no_body = refl; line_is = rw is refl }
+  bad_line before method kind pc tail bad is = record { verdict = Bad kind pc; is_verdict = λ world. bad; no_body = refl; line_is = rw is refl }
 
   pub not_yet_line : (before : List MethodOf) (method : MethodOf) (pc : ℕ) (tail : List ℕ) → IsNotYet class before method pc → tail ≡ not_yet_tail pc → IsLineOf class before method tail
-  not_yet_line before method pc tail not_yet is = record { verdict = NotYet pc; is_verdict = not_yet; no_body = refl; line_is = rw is refl }
+  not_yet_line before method pc tail not_yet is = record { verdict = NotYet pc; is_verdict = λ world. not_yet; no_body = refl; line_is = rw is refl }
 
 -- a fact of each item, seen by a function, at one place
 pub all_at : {X Y : Type 0} (f : X → Y) (P : Y → Type 0) (items : List X) (i : ℕ) (item : X) → All P (map f items) → i < length items → item ≡ get_or items i item → P (f item)

@@ -1,6 +1,7 @@
 -- The unit of a class whose methods are judged is well formed, and with their lines it is the class's piece.
 use Rattle.std.proofs.Common.{◌≡◌, ◌≢◌, ℕ, List, ◌++◌, Option, refl, All}
 use Rattle.dj_class.specs.Described.{ClassOf}
+use Rattle.dj_world.specs.Worlds.{WorldOf}
 use Rattle.dj_syntax.specs.Trees.{Body, MethodText, CompilationUnit}
 use Rattle.dj_syntax.specs.UnitText.{unit_text}
 use Rattle.dj_syntax.specs.WellFormed.{IsWellFormed}
@@ -16,10 +17,10 @@ module _ (class : ClassOf) (texts : List MethodText) (lines : List ℕ) (unit : 
   well_formed =
       unit_well_formed class (bodies_of judged.verdicts) unit part.flags part.name (made (bodies_of judged.verdicts) judged.texts_are) simple (rw judged.texts_are at judged.well_formed)
 
-  pub prints_class : PrintsClass class (record { text = file_line class.this_class ++ unit_text unit; lines = lines })
-  prints_class = record {
+  pub prints_class : (world : WorldOf) → PrintsClass world class (record { text = file_line class.this_class ++ unit_text unit; lines = lines })
+  prints_class world = record {
     verdicts = judged.verdicts;
-    judged = judged.judged;
+    judged = judged.judged world;
     unit = unit;
     class_text = made (bodies_of judged.verdicts) judged.texts_are;
     well_formed = well_formed;

@@ -13,6 +13,7 @@ use Rattle.dj_cli.specs.declared.telling.TellStop.{TellStop}
 use Rattle.dj_cli.specs.declared.telling.TellStop.TheVariants.{Text, Report, Memory}
 use Rattle.dj_cli.specs.Output.{Piece, IsFilePiece, IsNext, none, more, text_of, lines_of, Grew, ToldFirst, ToldAll, ToldSome, ToldFront, Cut, InText, InLines}
 use Rattle.dj_load.specs.HeldFiles.{FileIs}
+use Rattle.dj_world.specs.Worlds.{WorldOf}
 use Rattle.dj_cli.specs.Methods.{line_bytes, lines_bytes}
 use Rattle.dj_cli.specs.Telling.{StoppedTelling, TellsPiece, CutsPiece, StopsPiece}
 
@@ -64,19 +65,19 @@ grew-push pieces piece text_old text_new report_old report_new grew = record {
 
 -- ---- the pieces of files
 
-module _ (names : List (List ℕ)) (found : List FileIs) where
+module _ (names : List (List ℕ)) (found : List FileIs) (world : WorldOf) where
   -- the next piece is that of the file at its place
-  next_is : (before : List Piece) (i : ℕ) (name : List ℕ) (file : FileIs) (piece : Piece) → length before ≡ i → slice_get names i ≡ Some name → slice_get found i ≡ Some file → IsFilePiece name file piece → IsNext names found before piece
+  next_is : (before : List Piece) (i : ℕ) (name : List ℕ) (file : FileIs) (piece : Piece) → length before ≡ i → slice_get names i ≡ Some name → slice_get found i ≡ Some file → IsFilePiece world name file piece → IsNext names found world before piece
   next_is before i name file piece number at_name at_file is = inl (rw (number, at_name, at_file) is)
 
   -- no piece was told
-  pub told_none : (text report : Option (List ℕ)) → ToldFirst 0 false text text report report names found
+  pub told_none : (text report : Option (List ℕ)) → ToldFirst 0 false text text report report names found world
   told_none text report = record { pieces = []; are = none; number = refl; grew = grew-none text report; refused_is = refl }
 
-  module _ (i : ℕ) (refused : Bool) (text_old text_mid text_new report_old report_mid report_new : Option (List ℕ)) (told : ToldFirst i refused text_old text_mid report_old report_mid names found) where
+  module _ (i : ℕ) (refused : Bool) (text_old text_mid text_new report_old report_mid report_new : Option (List ℕ)) (told : ToldFirst i refused text_old text_mid report_old report_mid names found world) where
     -- the next piece was told
-    told_push : (piece : Piece) (one : Bool) → IsNext names found told.pieces piece → text_new ≡ append_known text_mid piece.text → report_new ≡ append_known report_mid piece.lines → MatchBool one (piece.lines ≢ []) (piece.lines ≡ [])
-        → ToldFirst (i + 1) (refused || one) text_old text_new report_old report_new names found
+    told_push : (piece : Piece) (one : Bool) → IsNext names found world told.pieces piece → text_new ≡ append_known text_mid piece.text → report_new ≡ append_known report_mid piece.lines → MatchBool one (piece.lines ≢ []) (piece.lines ≡ [])
+        → ToldFirst (i + 1) (refused || one) text_old text_new report_old report_new names found world
     told_push piece one next text_taken report_taken refused_is = record {
       pieces = told.pieces ++ piece ∷ [];
       are = more told.pieces piece told.are next;
@@ -88,12 +89,12 @@ module _ (names : List (List ℕ)) (found : List FileIs) where
 
     module _ (name : List ℕ) (file : FileIs) (at_name : slice_get names i ≡ Some name) (at_file : slice_get found i ≡ Some file) where
       -- the piece of the next file was told
-      pub told_more : (one : Bool) → TellsPiece (IsFilePiece name file) one text_mid text_new report_mid report_new → ToldFirst (i + 1) (refused || one) text_old text_new report_old report_new names found
+      pub told_more : (one : Bool) → TellsPiece (IsFilePiece world name file) one text_mid text_new report_mid report_new → ToldFirst (i + 1) (refused || one) text_old text_new report_old report_new names found world
       told_more one this =
           told_push this.piece one (next_is told.pieces i name file this.piece told.number at_name at_file this.is) this.text_taken this.report_taken this.refused_is
 
       -- the piece of the next file was cut off
-      told_front : (cut : Cut) → CutsPiece (IsFilePiece name file) cut text_mid text_new report_mid report_new → ToldFront cut text_old text_new report_old report_new names found
+      told_front : (cut : Cut) → CutsPiece (IsFilePiece world name file) cut text_mid text_new report_mid report_new → ToldFront cut text_old text_new report_old report_new names found world
       told_front cut this = record {
         pieces = told.pieces;
         are = told.are;
@@ -106,8 +107,8 @@ module _ (names : List (List ℕ)) (found : List FileIs) where
       }
 
       -- telling stopped at the next file
-      pub stops_telling : (stop : TellStop) → StopsPiece (IsFilePiece name file) stop text_mid text_new report_mid report_new
-          → StoppedTelling stop (ToldFront InText text_old text_new report_old report_new names found) (ToldFront InLines text_old text_new report_old report_new names found) (ToldSome text_old text_new report_old report_new names found)
+      pub stops_telling : (stop : TellStop) → StopsPiece (IsFilePiece world name file) stop text_mid text_new report_mid report_new
+          → StoppedTelling stop (ToldFront InText text_old text_new report_old report_new names found world) (ToldFront InLines text_old text_new report_old report_new names found world) (ToldSome text_old text_new report_old report_new names found world)
       stops_telling Text this = told_front InText this
       stops_telling Report this = told_front InLines this
       stops_telling (Memory error) this = (
@@ -123,11 +124,11 @@ module _ (names : List (List ℕ)) (found : List FileIs) where
       )
 
   -- all files were told, and then the last piece, which is nothing
-  pub told_all : (refused : Bool) (text_old text_new report_old report_new : Option (List ℕ)) → ToldFirst (length names) refused text_old text_new report_old report_new names found → ToldAll refused text_old text_new report_old report_new names found
+  pub told_all : (refused : Bool) (text_old text_new report_old report_new : Option (List ℕ)) → ToldFirst (length names) refused text_old text_new report_old report_new names found world → ToldAll refused text_old text_new report_old report_new names found world
   told_all refused text_old text_new report_old report_new told =
       let nothing : Piece = record { text = []; lines = [] } in
-      let next : IsNext names found told.pieces nothing = inr (told.number, record { no_text = refl; no_line = refl }) in
-      subst (λ flag. ToldAll flag text_old text_new report_old report_new names found) (or-false refused)
+      let next : IsNext names found world told.pieces nothing = inr (told.number, record { no_text = refl; no_line = refl }) in
+      subst (λ flag. ToldAll flag text_old text_new report_old report_new names found world) (or-false refused)
       (told_push (length names) refused text_old text_new text_new report_old report_new report_new told nothing false next (known-nothing text_new) (known-nothing report_new) refl)
 
 -- ---- the lines of one piece

@@ -81,7 +81,7 @@ pub fn load_files<F: Files>(
 ) -> Result<Vec<Vec<u8>>, LoadStop>
     ensures loaded { IfOk result (λ contents. IfSome (F.held files.old) (λ held. AreContents held (map string_bytes named.now) (contents_of contents.items))) }
     ensures number { IfOk result (λ contents. length contents.items ≡ length named.now) }
-    ensures few { OnOk result (length named.now ≤ most_files) }
+    ensures few { OnOk result (length (map string_bytes named.now) ≤ most_files) }
     ensures asked_all { OnOk result (F.asked files.new ≡ asked_with (F.asked files.old) (map string_bytes named.now)) }
     ensures stopped { IfErr result (λ stop. Stopped stop (ReadFails (F.held files.old) (map string_bytes named.now) (F.asked files.old) (F.asked files.new) (F.faults files.old) (F.faults files.new)) (IsTooMuch (F.held files.old) (map string_bytes named.now) (F.asked files.old) (F.asked files.new))) }
 

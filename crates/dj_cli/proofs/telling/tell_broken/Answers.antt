@@ -7,16 +7,16 @@ use Rattle.dj_cli.proofs.TellingLemmas.{back-some, cuts-line, tells-line}
 use Rattle.dj_cli.proofs.telling.tell_broken.Goals as goal
 
 pub returns-in-Ok-clause-told : goal.returns-in-Ok-clause-told
-returns-in-Ok-clause-told g c = λ text.
+returns-in-Ok-clause-told g c = λ world text.
     let path = c.args.path.now in
     let kind = c.args.kind in
     let offset = c.args.offset in
     let some = back-some (show_units (path_units path) ++ codes " broken " ++ broken_text kind ++ codes " " ++ decimal offset) 10 [] in
-    tells-line (IsFilePiece path (IsBroken kind offset)) (line_text (Broken path kind offset)) (refl, refl) text some (rw (c.as_slice.ensures.value, c.in_ok-line.ensures.line) at c.in-Ok.ensures.puts)
+    tells-line (IsFilePiece world path (IsBroken kind offset)) (line_text (Broken path kind offset)) (refl, refl) text some (rw (c.as_slice.ensures.value, c.in_ok-line.ensures.line) at c.in-Ok.ensures.puts)
 
 pub returns-clause-stopped : goal.returns-clause-stopped
-returns-clause-stopped g c = λ text.
+returns-clause-stopped g c = λ world text.
     let path = c.args.path.now in
     let kind = c.args.kind in
     let offset = c.args.offset in
-    cuts-line (IsFilePiece path (IsBroken kind offset)) (line_text (Broken path kind offset)) (refl, refl) text (rw (c.as_slice.ensures.value, c.in_ok-line.ensures.line) at c.in-Err.ensures.puts)
+    cuts-line (IsFilePiece world path (IsBroken kind offset)) (line_text (Broken path kind offset)) (refl, refl) text (rw (c.as_slice.ensures.value, c.in_ok-line.ensures.line) at c.in-Err.ensures.puts)

@@ -8,5 +8,5 @@ abbrev pub invariant-loop-place : goal.invariant-loop-place
 invariant-loop-place g l = record {
   text_falls : g.T.Sink.faults l.initial.text ≤ g.T.Sink.faults l.text;
   report_falls : g.P.Sink.faults l.initial.report ≤ g.P.Sink.faults l.report;
-  told : ToldFirst l.place l.refused (g.T.Sink.taken l.initial.text) (g.T.Sink.taken l.text) (g.P.Sink.taken l.initial.report) (g.P.Sink.taken l.report) (map string_bytes l.named) (all_found l.found);
+  told : ToldFirst l.place l.refused (g.T.Sink.taken l.initial.text) (g.T.Sink.taken l.text) (g.P.Sink.taken l.initial.report) (g.P.Sink.taken l.report) (map string_bytes l.named) (all_found l.files.found.items) l.files.world;
 }
