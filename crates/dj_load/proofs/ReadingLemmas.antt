@@ -2,6 +2,7 @@
 use Rattle.std.proofs.Common.{◌≡◌, ℕ, ◌+◌, ◌<◌, ◌≤◌, ◌^◌, List, [], ◌∷◌, ◌++◌, length, map, refl, suc, sym, ap, ◌∙◌, arith}
 use Rattle.std.specs.List.{AllZip}
 use Rattle.std.proofs.lemmas.List.{length-map, length_push}
+use Rattle.dj_layout.specs.Parts.{number}
 use Rattle.dj_class.specs.declared.class.ClassFile.{ClassFile}
 use Rattle.dj_class.specs.Views.{view_field, view_method}
 use Rattle.dj_world.specs.Worlds.{WorldOf}
@@ -16,6 +17,7 @@ zip_number R (x ∷ xs) (y ∷ ys) each = ap suc (zip_number R xs ys each.1)
 
 -- the number of fields stands in two bytes (JVMS 4.1)
 pub few_fields : (bytes : List ℕ) (class : ClassFile) → IsClassFile bytes class → length class.fields < 2 ^ 32
+unfolding number
 few_fields bytes class spelled =
     let raw = spelled.raw.rest.listed.fields in
     let number : length raw < 65536 = spelled.laid_out.fits.1.1.0.1.0.1.0.0 in
@@ -24,6 +26,7 @@ few_fields bytes class spelled =
 
 -- the number of methods stands in two bytes (JVMS 4.1)
 pub few_methods : (bytes : List ℕ) (class : ClassFile) → IsClassFile bytes class → length class.methods < 2 ^ 32
+unfolding number
 few_methods bytes class spelled =
     let raw = spelled.raw.rest.listed.methods in
     let number : length raw < 65536 = spelled.laid_out.fits.1.1.0.1.0.1.1.0.0 in

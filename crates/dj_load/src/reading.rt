@@ -1,6 +1,6 @@
 //! What files are, and the world that their classes make.
 
-ghost use Rattle.std.specs.Prelude.{◌≡◌, ◌≤◌, ◌<◌, ◌+◌, ◌^◌, IfOk, List, ℕ, length};
+ghost use Rattle.std.specs.Prelude.{◌≡◌, ◌≤◌, ◌<◌, ◌+◌, ◌^◌, IfOk, List, OnOk, ℕ, length};
 ghost use Rattle.dj_load.specs.HeldFiles.{AreFiles, IsClassFile, IsFile, MakesWorld, most_files, no_classes};
 ghost use Rattle.dj_load.specs.Loading.{all_found, contents_of, found_of};
 
@@ -64,7 +64,8 @@ fn add_files(
     requires few { length contents.now ≤ most_files }
     requires empty { world.old ≡ no_classes }
     ensures found { IfOk result (λ found. AreFiles no_classes (contents_of contents.now) (all_found found.items) world.new) }
-    ensures number { IfOk result (λ found. length world.new.members ≤ length contents.now) }
+    ensures number { IfOk result (λ found. length found.items ≡ length contents.now) }
+    ensures few { OnOk result (length world.new.members ≤ length contents.now) }
 {
     let mut found = Vec::new(alloc);
     for bytes in contents {
@@ -76,6 +77,7 @@ fn add_files(
 /// What each file is, and the world that their classes and the core classes make.
 pub fn read_files(alloc: Global, contents: &[Vec<u8>]) -> Result<FoundFiles, AllocError>
     requires few { length contents.now ≤ most_files }
+    ensures number { IfOk result (λ read. length read.found.items ≡ length contents.now) }
     ensures read { IfOk result (λ read. MakesWorld (contents_of contents.now) (all_found read.found.items) read.world) }
 {
     let mut world = World::new(alloc);
