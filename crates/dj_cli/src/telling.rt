@@ -213,9 +213,10 @@ pub fn tell_files<T: Sink, P: Sink>(
     ensures text_falls { T.faults text.old ≤ T.faults text.new }
     ensures report_falls { P.faults report.old ≤ P.faults report.new }
 {
+    let found = files.found.as_slice();
     let mut refused = false;
     for place in 0..named.len() {
-        let one = tell_file(alloc, named[place].as_str(), &files.found[place], text, report)?;
+        let one = tell_file(alloc, named[place].as_str(), &found[place], text, report)?;
         refused |= one;
     }
     Ok(refused)

@@ -10,8 +10,8 @@ mod words;
 
 pub use putting::put_piece;
 pub use report::{
-    bad_tail, broken_line, clash_line, much_line, not_yet_tail, put_class_line, put_method_line, read_line,
-    usage_line,
+    bad_tail, broken_line, clash_line, much_line, not_yet_tail, put_class_line, put_method_line,
+    read_line, usage_line,
 };
 pub use status::{Status, UsageKind};
 pub use words::{Order, WordsFault, read_words};

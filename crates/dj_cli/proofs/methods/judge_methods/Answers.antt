@@ -5,10 +5,16 @@ use Rattle.dj_class.specs.Views.{view_class, view_method}
 use Rattle.dj_syntax.specs.Trees as trees
 use Rattle.dj_cli.specs.Methods.{IsToldOf, lines_bytes}
 use Rattle.dj_load.proofs.LoadingLemmas.{take_map_more}
-use Rattle.dj_cli.proofs.MethodsLemmas.{judged_text, judged_line, all_at}
+use Rattle.dj_cli.proofs.MethodsLemmas.{judged_none, judged_text, judged_line, all_at}
 use Rattle.dj_cli.proofs.TellingLemmas.{lines_bytes-push}
 use Rattle.dj_cli.proofs.methods.judge_methods.Goals as goal
 use Rattle.dj_cli.proofs.methods.judge_methods.Goals.{in-Text+in_ok-push-in-Text, in-Line+in_ok-push-in-Line}
+
+pub loop-method-init : goal.loop-method-init
+loop-method-init c = record {
+  holds = c.new-declared.ensures.none;
+  judged = rw (c.new-texts.ensures, c.new-lines.ensures.items) (judged_none (view_class c.args.class.now));
+}
 
 pub loop-method-preserved : goal.loop-method-preserved
 loop-method-preserved c =

@@ -1,19 +1,81 @@
-use Rattle.std.proofs.Common.{◌≡◌, length, refl, sym, ap, ◌∙◌, inr}
-use Rattle.std.proofs.lemmas.List.{length-map}
+use Rattle.std.proofs.Common.{true, false, length, map, refl, ap, ◌∙◌, inl, inr}
+use Rattle.std.specs.Prelude.{⊤}
+use Rattle.std.specs.String.{string_bytes}
 use Rattle.dj_report.specs.declared.status.Status.TheVariants.{ReadFault, TooMuch}
 use Rattle.dj_report.specs.Report.{Read, Much}
-use Rattle.dj_load.specs.Loading.{all_found, contents_of, found_of}
+use Rattle.dj_load.specs.Loading.{all_found, contents_of}
+use Rattle.dj_cli.specs.Output.{InLines, InText, ToldAll, ToldFront, ToldSome}
 use Rattle.dj_cli.specs.Program.{read, much}
-use Rattle.dj_load.proofs.LoadingLemmas.{read_number}
-use Rattle.dj_cli.proofs.RunLemmas.{ends-report}
+use Rattle.dj_cli.proofs.RunLemmas.{clean-then, ends-report, err-then, no-other, of_files, refused-then, report-then, text-then}
 use Rattle.dj_cli.proofs.program.print_files.Goals as goal
 
 pub tell-requires : goal.tell-requires
-tell-requires g c =
-    let found = c.in_ok-found-in-Ok.found.items in
-    let as_many = read_number (contents_of c.as_slice.result.now) (all_found found) c.in_ok-found-in-Ok.ensures.read in
-    let contents : length c.as_slice.result.now ≡ length c.args.named.now = ap length c.as_slice.ensures.value ∙ c.in-Ok.ensures.number in
-    record { number = ap length c.as_slice-in-Ok.ensures.value ∙ sym (length-map found found_of) ∙ as_many ∙ length-map c.as_slice.result.now (λ bytes. bytes.items) ∙ contents }
+tell-requires g c = record { number = c.in_ok-found-in-Ok.ensures.number ∙ ap length c.as_slice.ensures.value ∙ c.in-Ok.ensures.number }
+
+pub returns-in_ok-found-in-Ok-clause-clean : goal.returns-in_ok-found-in-Ok-clause-clean
+returns-in_ok-found-in-Ok-clause-clean g c =
+    let held = g.F.Files.held c.args.files.now in
+    let names = map string_bytes c.args.named.now in
+    let contents = contents_of c.in-Ok.contents.items in
+    let found = c.in_ok-found-in-Ok.found in
+    let makes = rw c.as_slice.ensures.value at c.in_ok-found-in-Ok.ensures.read in
+    let of = λ Told. of_files held names contents (all_found found.found.items) found.world Told c.in-Ok.ensures.few c.in-Ok.ensures.loaded makes in
+    clean-then (of (ToldAll false (g.T.Sink.taken c.args.text.now) (g.T.Sink.taken c.tell.new.text) (g.P.Sink.taken c.args.report.now) (g.P.Sink.taken c.tell.new.report))) c.tell.result c.tell.ensures.clean
+
+pub returns-in_ok-found-in-Ok-clause-refused : goal.returns-in_ok-found-in-Ok-clause-refused
+returns-in_ok-found-in-Ok-clause-refused g c =
+    let held = g.F.Files.held c.args.files.now in
+    let names = map string_bytes c.args.named.now in
+    let contents = contents_of c.in-Ok.contents.items in
+    let found = c.in_ok-found-in-Ok.found in
+    let makes = rw c.as_slice.ensures.value at c.in_ok-found-in-Ok.ensures.read in
+    let of = λ Told. of_files held names contents (all_found found.found.items) found.world Told c.in-Ok.ensures.few c.in-Ok.ensures.loaded makes in
+    refused-then (of (ToldAll true (g.T.Sink.taken c.args.text.now) (g.T.Sink.taken c.tell.new.text) (g.P.Sink.taken c.args.report.now) (g.P.Sink.taken c.tell.new.report))) c.tell.result c.tell.ensures.refused
+
+pub returns-in_ok-found-in-Ok-clause-usage : goal.returns-in_ok-found-in-Ok-clause-usage
+returns-in_ok-found-in-Ok-clause-usage g c = no-other c.tell.result (λ kind. ⊥) (λ place. ⊤) (λ place. ⊤) c.tell.ensures.no_other
+
+pub returns-in_ok-found-in-Ok-clause-read : goal.returns-in_ok-found-in-Ok-clause-read
+returns-in_ok-found-in-Ok-clause-read g c = no-other c.tell.result (λ kind. ⊤) _ (λ place. ⊤) c.tell.ensures.no_other
+
+pub returns-in_ok-found-in-Ok-clause-read_line : goal.returns-in_ok-found-in-Ok-clause-read_line
+returns-in_ok-found-in-Ok-clause-read_line g c = no-other c.tell.result (λ kind. ⊤) _ (λ place. ⊤) c.tell.ensures.no_other
+
+pub returns-in_ok-found-in-Ok-clause-much : goal.returns-in_ok-found-in-Ok-clause-much
+returns-in_ok-found-in-Ok-clause-much g c = no-other c.tell.result (λ kind. ⊤) (λ place. ⊤) _ c.tell.ensures.no_other
+
+pub returns-in_ok-found-in-Ok-clause-much_line : goal.returns-in_ok-found-in-Ok-clause-much_line
+returns-in_ok-found-in-Ok-clause-much_line g c = no-other c.tell.result (λ kind. ⊤) (λ place. ⊤) _ c.tell.ensures.no_other
+
+pub returns-in_ok-found-in-Ok-clause-text_fault : goal.returns-in_ok-found-in-Ok-clause-text_fault
+returns-in_ok-found-in-Ok-clause-text_fault g c =
+    let held = g.F.Files.held c.args.files.now in
+    let names = map string_bytes c.args.named.now in
+    let contents = contents_of c.in-Ok.contents.items in
+    let found = c.in_ok-found-in-Ok.found in
+    let makes = rw c.as_slice.ensures.value at c.in_ok-found-in-Ok.ensures.read in
+    let of = λ Told. of_files held names contents (all_found found.found.items) found.world Told c.in-Ok.ensures.few c.in-Ok.ensures.loaded makes in
+    text-then (of (ToldFront InText (g.T.Sink.taken c.args.text.now) (g.T.Sink.taken c.tell.new.text) (g.P.Sink.taken c.args.report.now) (g.P.Sink.taken c.tell.new.report))) c.tell.result c.tell.ensures.text_fault
+
+pub returns-in_ok-found-in-Ok-clause-report_fault : goal.returns-in_ok-found-in-Ok-clause-report_fault
+returns-in_ok-found-in-Ok-clause-report_fault g c =
+    let held = g.F.Files.held c.args.files.now in
+    let names = map string_bytes c.args.named.now in
+    let contents = contents_of c.in-Ok.contents.items in
+    let found = c.in_ok-found-in-Ok.found in
+    let makes = rw c.as_slice.ensures.value at c.in_ok-found-in-Ok.ensures.read in
+    let of = λ Told. of_files held names contents (all_found found.found.items) found.world Told c.in-Ok.ensures.few c.in-Ok.ensures.loaded makes in
+    report-then (λ told. inl (of (ToldFront InLines (g.T.Sink.taken c.args.text.now) (g.T.Sink.taken c.tell.new.text) (g.P.Sink.taken c.args.report.now) (g.P.Sink.taken c.tell.new.report)) told)) c.tell.result c.tell.ensures.report_fault
+
+pub returns-in_ok-found-in-Ok-clause-memory : goal.returns-in_ok-found-in-Ok-clause-memory
+returns-in_ok-found-in-Ok-clause-memory g c =
+    let held = g.F.Files.held c.args.files.now in
+    let names = map string_bytes c.args.named.now in
+    let contents = contents_of c.in-Ok.contents.items in
+    let found = c.in_ok-found-in-Ok.found in
+    let makes = rw c.as_slice.ensures.value at c.in_ok-found-in-Ok.ensures.read in
+    let of = λ Told. of_files held names contents (all_found found.found.items) found.world Told c.in-Ok.ensures.few c.in-Ok.ensures.loaded makes in
+    err-then (λ told. inr (of (ToldSome (g.T.Sink.taken c.args.text.now) (g.T.Sink.taken c.tell.new.text) (g.P.Sink.taken c.args.report.now) (g.P.Sink.taken c.tell.new.report)) told)) c.tell.result c.tell.ensures.memory
 
 pub returns-in_ok-line-in-Err-Fault-clause-report_fault :
     goal.returns-in_ok-line-in-Err-Fault-clause-report_fault

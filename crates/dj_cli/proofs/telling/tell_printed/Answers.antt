@@ -1,4 +1,5 @@
-use Rattle.std.proofs.Common.{◌==◌, length, take, refl, sym, ap, ◌∙◌}
+use Rattle.std.proofs.Common.{◌==◌, [], length, take, refl, sym, ap, ◌∙◌}
+use Rattle.dj_outer.proofs.PutsLemmas.{known-nothing}
 use Rattle.dj_cli.specs.Output.{printed}
 use Rattle.dj_cli.specs.Pieces.{piece_of}
 use Rattle.dj_cli.proofs.TellingLemmas.{has-line}
@@ -18,6 +19,20 @@ returns-clause-told g c = λ world.
 
 pub returns-in-Err-clause-told : goal.returns-in-Err-clause-told
 returns-in-Err-clause-told g c = λ world. tt
+
+pub returns-in-Err-clause-stopped : goal.returns-in-Err-clause-stopped
+returns-in-Err-clause-stopped g c = λ world.
+    let piece = piece_of c.args.class.now.this_class c.in_ok-piece.piece in
+    let cut = c.in-Err.ensures.puts.prefix in
+    record {
+      piece = piece;
+      is = printed c.requires.part (c.in_ok-piece.ensures.printed world);
+      text = take cut.0 piece.text;
+      lines = [];
+      front = (cut.0, refl, refl);
+      text_taken = cut.1;
+      report_taken = known-nothing (g.P.Sink.taken c.args.report.now);
+    }
 
 pub returns-in-Err-put_lines-clause-stopped : goal.returns-in-Err-put_lines-clause-stopped
 returns-in-Err-put_lines-clause-stopped g c = λ world.
