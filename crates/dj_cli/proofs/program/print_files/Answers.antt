@@ -19,8 +19,7 @@ returns-in_ok-found-in-Ok-clause-clean g c =
     let contents = contents_of c.in-Ok.contents.items in
     let found = c.in_ok-found-in-Ok.found in
     let makes = rw c.as_slice.ensures.value at c.in_ok-found-in-Ok.ensures.read in
-    let of = λ Told. of_files held names contents (all_found found.found.items) found.world Told c.in-Ok.ensures.few c.in-Ok.ensures.loaded makes in
-    clean-then (of (ToldAll false (g.T.Sink.taken c.args.text.now) (g.T.Sink.taken c.tell.new.text) (g.P.Sink.taken c.args.report.now) (g.P.Sink.taken c.tell.new.report))) c.tell.result c.tell.ensures.clean
+    clean-then (of_files held names contents (all_found found.found.items) found.world (ToldAll false (g.T.Sink.taken c.args.text.now) (g.T.Sink.taken c.tell.new.text) (g.P.Sink.taken c.args.report.now) (g.P.Sink.taken c.tell.new.report)) c.in-Ok.ensures.few c.in-Ok.ensures.loaded makes) c.tell.result c.tell.ensures.clean
 
 pub returns-in_ok-found-in-Ok-clause-refused : goal.returns-in_ok-found-in-Ok-clause-refused
 returns-in_ok-found-in-Ok-clause-refused g c =
@@ -29,8 +28,7 @@ returns-in_ok-found-in-Ok-clause-refused g c =
     let contents = contents_of c.in-Ok.contents.items in
     let found = c.in_ok-found-in-Ok.found in
     let makes = rw c.as_slice.ensures.value at c.in_ok-found-in-Ok.ensures.read in
-    let of = λ Told. of_files held names contents (all_found found.found.items) found.world Told c.in-Ok.ensures.few c.in-Ok.ensures.loaded makes in
-    refused-then (of (ToldAll true (g.T.Sink.taken c.args.text.now) (g.T.Sink.taken c.tell.new.text) (g.P.Sink.taken c.args.report.now) (g.P.Sink.taken c.tell.new.report))) c.tell.result c.tell.ensures.refused
+    refused-then (of_files held names contents (all_found found.found.items) found.world (ToldAll true (g.T.Sink.taken c.args.text.now) (g.T.Sink.taken c.tell.new.text) (g.P.Sink.taken c.args.report.now) (g.P.Sink.taken c.tell.new.report)) c.in-Ok.ensures.few c.in-Ok.ensures.loaded makes) c.tell.result c.tell.ensures.refused
 
 pub returns-in_ok-found-in-Ok-clause-usage : goal.returns-in_ok-found-in-Ok-clause-usage
 returns-in_ok-found-in-Ok-clause-usage g c = no-other c.tell.result (λ kind. ⊥) (λ place. ⊤) (λ place. ⊤) c.tell.ensures.no_other
@@ -54,8 +52,7 @@ returns-in_ok-found-in-Ok-clause-text_fault g c =
     let contents = contents_of c.in-Ok.contents.items in
     let found = c.in_ok-found-in-Ok.found in
     let makes = rw c.as_slice.ensures.value at c.in_ok-found-in-Ok.ensures.read in
-    let of = λ Told. of_files held names contents (all_found found.found.items) found.world Told c.in-Ok.ensures.few c.in-Ok.ensures.loaded makes in
-    text-then (of (ToldFront InText (g.T.Sink.taken c.args.text.now) (g.T.Sink.taken c.tell.new.text) (g.P.Sink.taken c.args.report.now) (g.P.Sink.taken c.tell.new.report))) c.tell.result c.tell.ensures.text_fault
+    text-then (of_files held names contents (all_found found.found.items) found.world (ToldFront InText (g.T.Sink.taken c.args.text.now) (g.T.Sink.taken c.tell.new.text) (g.P.Sink.taken c.args.report.now) (g.P.Sink.taken c.tell.new.report)) c.in-Ok.ensures.few c.in-Ok.ensures.loaded makes) c.tell.result c.tell.ensures.text_fault
 
 pub returns-in_ok-found-in-Ok-clause-report_fault : goal.returns-in_ok-found-in-Ok-clause-report_fault
 returns-in_ok-found-in-Ok-clause-report_fault g c =
@@ -64,8 +61,7 @@ returns-in_ok-found-in-Ok-clause-report_fault g c =
     let contents = contents_of c.in-Ok.contents.items in
     let found = c.in_ok-found-in-Ok.found in
     let makes = rw c.as_slice.ensures.value at c.in_ok-found-in-Ok.ensures.read in
-    let of = λ Told. of_files held names contents (all_found found.found.items) found.world Told c.in-Ok.ensures.few c.in-Ok.ensures.loaded makes in
-    report-then (λ told. inl (of (ToldFront InLines (g.T.Sink.taken c.args.text.now) (g.T.Sink.taken c.tell.new.text) (g.P.Sink.taken c.args.report.now) (g.P.Sink.taken c.tell.new.report)) told)) c.tell.result c.tell.ensures.report_fault
+    report-then (λ told. inl (of_files held names contents (all_found found.found.items) found.world (ToldFront InLines (g.T.Sink.taken c.args.text.now) (g.T.Sink.taken c.tell.new.text) (g.P.Sink.taken c.args.report.now) (g.P.Sink.taken c.tell.new.report)) c.in-Ok.ensures.few c.in-Ok.ensures.loaded makes told)) c.tell.result c.tell.ensures.report_fault
 
 pub returns-in_ok-found-in-Ok-clause-memory : goal.returns-in_ok-found-in-Ok-clause-memory
 returns-in_ok-found-in-Ok-clause-memory g c =
@@ -74,8 +70,7 @@ returns-in_ok-found-in-Ok-clause-memory g c =
     let contents = contents_of c.in-Ok.contents.items in
     let found = c.in_ok-found-in-Ok.found in
     let makes = rw c.as_slice.ensures.value at c.in_ok-found-in-Ok.ensures.read in
-    let of = λ Told. of_files held names contents (all_found found.found.items) found.world Told c.in-Ok.ensures.few c.in-Ok.ensures.loaded makes in
-    err-then (λ told. inr (of (ToldSome (g.T.Sink.taken c.args.text.now) (g.T.Sink.taken c.tell.new.text) (g.P.Sink.taken c.args.report.now) (g.P.Sink.taken c.tell.new.report)) told)) c.tell.result c.tell.ensures.memory
+    err-then (λ told. inr (of_files held names contents (all_found found.found.items) found.world (ToldSome (g.T.Sink.taken c.args.text.now) (g.T.Sink.taken c.tell.new.text) (g.P.Sink.taken c.args.report.now) (g.P.Sink.taken c.tell.new.report)) c.in-Ok.ensures.few c.in-Ok.ensures.loaded makes told)) c.tell.result c.tell.ensures.memory
 
 pub returns-in_ok-line-in-Err-Fault-clause-report_fault :
     goal.returns-in_ok-line-in-Err-Fault-clause-report_fault

@@ -1,4 +1,4 @@
-use Rattle.std.proofs.Common.{◌≡◌, ◌<◌, length, map, sym, ap, ◌∙◌, subst, arith}
+use Rattle.std.proofs.Common.{◌≡◌, ◌<◌, length, map, sym, ◌∙◌, subst, arith}
 use Rattle.std.specs.String.{string_bytes}
 use Rattle.std.proofs.lemmas.List.{length-map}
 use Rattle.std.proofs.lemmas.Result.{err_from_is_err_and}
@@ -19,30 +19,28 @@ pub returns-in_err-one-clause-stopped : goal.returns-in_err-one-clause-stopped
 returns-in_err-one-clause-stopped g c =
     let named = c.args.named.now in
     let found = c.args.files.now.found.items in
-    let items = c.as_slice-found.result.now in
     let i = c.loop-place.place in
     let in_named : i < length named = omega arith in
-    let in_items : i < length items = omega (arith, ap length c.as_slice-found.ensures.value) in
+    let in_found : i < length found = omega arith in
     let at_name = name_at string_bytes named i c.index-named-place.result in_named c.index-named-place.is in
-    let at_file = rw c.as_slice-found.ensures.value at name_at found_of items i c.index-found-place.result in_items c.index-found-place.is in
+    let at_file = name_at found_of found i c.index-found-place.result in_found (rw c.as_slice-found.ensures.value at c.index-found-place.is) in
     let p = err_from_is_err_and c.from_residual.result c.from_residual.ensures.1 in
     rw (p.1, p.2)
-    (stops_telling (map string_bytes named) (all_found found) c.args.files.now.world i c.loop-place.refused (g.T.Sink.taken c.args.text.now) (g.T.Sink.taken c.loop-place.text) (g.T.Sink.taken c.tell_file.new.text) (g.P.Sink.taken c.args.report.now) (g.P.Sink.taken c.loop-place.report) (g.P.Sink.taken c.tell_file.new.report) c.loop-place.invariant.told (string_bytes c.index-named-place.result) (found_of c.index-found-place.result) at_name at_file c.in_err-one.field-0.0 (rw c.as_str.ensures.value at c.in_err-one.ensures.stopped))
+    (stops_telling (map string_bytes named) (all_found found) c.args.files.now.world i c.loop-place.refused (g.T.Sink.taken c.args.text.now) (g.T.Sink.taken c.loop-place.text) (g.T.Sink.taken c.tell_file.new.text) (g.P.Sink.taken c.args.report.now) (g.P.Sink.taken c.loop-place.report) (g.P.Sink.taken c.tell_file.new.report) c.loop-place.invariant.told (string_bytes c.index-named-place.result) (found_of c.index-found-place.result) at_name at_file c.in_err-one.field-0.0 ((rw c.as_str.ensures.value at c.in_err-one.ensures.stopped) c.args.files.now.world))
 
 pub loop-place-preserved : goal.loop-place-preserved
 loop-place-preserved g c =
     let named = c.args.named.now in
     let found = c.args.files.now.found.items in
-    let items = c.as_slice-found.result.now in
     let i = c.loop-place.place in
     let in_named : i < length named = omega arith in
-    let in_items : i < length items = omega (arith, ap length c.as_slice-found.ensures.value) in
+    let in_found : i < length found = omega arith in
     let at_name = name_at string_bytes named i c.index-named-place.result in_named c.index-named-place.is in
-    let at_file = rw c.as_slice-found.ensures.value at name_at found_of items i c.index-found-place.result in_items c.index-found-place.is in
+    let at_file = name_at found_of found i c.index-found-place.result in_found (rw c.as_slice-found.ensures.value at c.index-found-place.is) in
     record {
       text_falls = omega arith;
       report_falls = omega arith;
-      told = told_more (map string_bytes named) (all_found found) c.args.files.now.world i c.loop-place.refused (g.T.Sink.taken c.args.text.now) (g.T.Sink.taken c.loop-place.text) (g.T.Sink.taken c.tell_file.new.text) (g.P.Sink.taken c.args.report.now) (g.P.Sink.taken c.loop-place.report) (g.P.Sink.taken c.tell_file.new.report) c.loop-place.invariant.told (string_bytes c.index-named-place.result) (found_of c.index-found-place.result) at_name at_file c.in_ok-one.one (rw c.as_str.ensures.value at c.in_ok-one.ensures.told);
+      told = told_more (map string_bytes named) (all_found found) c.args.files.now.world i c.loop-place.refused (g.T.Sink.taken c.args.text.now) (g.T.Sink.taken c.loop-place.text) (g.T.Sink.taken c.tell_file.new.text) (g.P.Sink.taken c.args.report.now) (g.P.Sink.taken c.loop-place.report) (g.P.Sink.taken c.tell_file.new.report) c.loop-place.invariant.told (string_bytes c.index-named-place.result) (found_of c.index-found-place.result) at_name at_file c.in_ok-one.one ((rw c.as_str.ensures.value at c.in_ok-one.ensures.told) c.args.files.now.world);
     }
 
 pub returns-clause-told : goal.returns-clause-told
