@@ -49,7 +49,7 @@ pub data FileIs : Type 0 where
 abbrev pub IsClassFile : List ℕ → ClassFile → Type 0
 IsClassFile bytes class = SpellsClass bytes 50 (view_class class)
 
--- the bytes are the file of a class that clashes with those of these headers: this is the first clash that applies
+-- the bytes are the file of a class that clashes with those of this world: the first clash that applies
 pub record HasClash (world : WorldOf) (bytes : List ℕ) (kind : ClashKind) : Type 0 where
   pub class : ClassFile
   pub spelled : IsClassFile bytes class
@@ -78,13 +78,13 @@ AreFiles old (bytes ∷ contents) (file ∷ found) new = (between : WorldOf) × 
 abbrev pub no_classes : WorldOf
 no_classes = record { headers = []; members = [] }
 
--- the world that files of these contents make, and then the core classes that clash with none of theirs
+-- the world that files of these contents make, with the core classes that clash with none of theirs filled in
 pub record MakesWorld (contents : List (List ℕ)) (found : List FileIs) (world : WorldOf) : Type 0 where
   pub of_files : WorldOf
   pub files : AreFiles no_classes contents found of_files
   pub filled : Fills of_files core_classes world
 
--- each file of these names was loaded, is what was found, and the world is theirs; of files that don't tell what they hold, some contents are
+-- each file of these names was loaded and is what was found, and this is their world; where the files don't tell what they hold, it is that of some contents
 pub record Setting (held : Option Files) (names : List (List ℕ)) (found : List FileIs) (world : WorldOf) : Type 0 where
   pub few : length names ≤ most_files
   pub contents : List (List ℕ)
