@@ -1,10 +1,10 @@
 -- Ways up through superclasses that stay in a package.
-use Rattle.std.proofs.Common.{◌≡◌, ◌≢◌, ℕ, suc, ◌+◌, ◌<◌, ◌≤◌, List, [], ◌∷◌, Option, Some, None, Bool, true, false, bytes_eq, if◌then◌else◌, slice_get, length, refl, sym, ap, subst, ◌∙◌, arith}
+use Rattle.std.proofs.Common.{◌≡◌, ◌≢◌, ℕ, suc, ◌+◌, ◌≤◌, List, [], ◌∷◌, Some, None, Bool, true, false, bytes_eq, if◌then◌else◌, slice_get, length, refl, sym, ap, subst, ◌∙◌, arith}
 use Rattle.std.specs.Prelude.{option_map}
 use Rattle.std.proofs.lemmas.Option.{same_Some, none-some, slice_get_read, slice_get-map}
 use Rattle.std.proofs.lemmas.Slice.Eq.{bytes_eq-Decides}
 use Rattle.dj_names.specs.declared.header.Header.{Header}
-use Rattle.dj_names.specs.Headers.{Name, names, HasDistinctNames, HasSuperclass, IsPath, IsSubclass}
+use Rattle.dj_names.specs.Headers.{Name, names, HasDistinctNames, HasSuperclass, IsPath}
 use Rattle.dj_names.proofs.PathLemmas.{short_subclass}
 use Rattle.dj_kinds.specs.Search.{header_of, superclass_in}
 use Rattle.dj_kinds.specs.Access.{package_of}

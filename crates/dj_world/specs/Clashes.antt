@@ -1,5 +1,5 @@
 -- Which class may be added to others (JVMS 4.1, 4.10, 5.3.5).
-use Rattle.std.specs.Prelude.{◌≡◌, ℕ, ◌≤◌, List, [], ◌∷◌, ◌++◌, Any, Contains, IsBitSet, ◌⊎◌, Some}
+use Rattle.std.specs.Prelude.{◌≡◌, ℕ, ◌≤◌, List, [], ◌∷◌, ◌++◌, Any, Contains, IsBitSet, ◌⊎◌}
 use Rattle.dj_names.specs.declared.header.Header.{Header}
 use Rattle.dj_names.specs.Headers.{Name, names, HasDistinctNames, IsInterface, HasSuperclass, HasInterface, HasParent, Implements}
 use Rattle.dj_world.specs.declared.fault.ClashKind.{ClashKind}

@@ -1,6 +1,6 @@
 use Rattle.dj_names.specs.Headers.{Name}
 use Rattle.std.proofs.Common.{◌≡◌}
-use Rattle.dj_world.proofs.LearningLemmas.{learns_added, some_learned, some_same}
+use Rattle.dj_world.proofs.LearningLemmas.{learns_added, some_learned}
 use Rattle.dj_world.proofs.named.learn.Goals as goal
 
 pub returns : goal.returns

@@ -1,4 +1,4 @@
-use Rattle.std.proofs.Common.{◌≡◌, ◌≤◌, length}
+use Rattle.std.proofs.Common.{◌≡◌}
 use Rattle.dj_world.specs.Wanting.{KeepsWanted}
 use Rattle.dj_world.proofs.wanted.Wanted.read_on.Given as goal
 

@@ -1,6 +1,5 @@
 use Rattle.std.proofs.Common.{Contains, refl}
-use Rattle.dj_world.specs.Wanting.{WantsAsSuperclass}
-use Rattle.dj_world.proofs.LearningLemmas.{some_same, some_learned}
+use Rattle.dj_world.proofs.LearningLemmas.{some_same}
 use Rattle.dj_world.proofs.WantedLemmas.{keeps_some, keeps_next}
 use Rattle.dj_world.proofs.wanted.Wanted.read_one.Goals as goal
 
