@@ -1,5 +1,5 @@
 -- Candidates, and the choice among them.
-use Rattle.std.proofs.Common.{◌≡◌, ◌⊎◌, ◌↔◌, ℕ, Bool, false, List, [], ◌∷◌, Option, Some, None, IsTrue, IsSomeAnd, slice_get, sym, ap, subst, inl, inr, ◌∙◌}
+use Rattle.std.proofs.Common.{◌≡◌, ◌⊎◌, ◌↔◌, ℕ, suc, Bool, false, length, refl, List, [], ◌∷◌, Option, Some, None, IsTrue, IsSomeAnd, slice_get, sym, ap, subst, inl, inr, ◌∙◌}
 use Rattle.std.specs.Prelude.{IfSome, option_map}
 use Rattle.std.proofs.lemmas.Bool.{cases_Bool}
 use Rattle.std.proofs.lemmas.Option.{same_Some, none-some, slice_get-map}
@@ -8,9 +8,10 @@ use Rattle.dj_names.specs.declared.members.MethodHead.{MethodHead}
 use Rattle.dj_names.specs.declared.members.ClassMembers.{ClassMembers}
 use Rattle.dj_names.specs.declared.members.Member.{Member}
 use Rattle.dj_names.specs.Headers.{Name, HasDistinctNames}
+use Rattle.dj_names.specs.Types.{JType, StaticType}
 use Rattle.dj_kinds.specs.Search.{IsFirstIn}
-use Rattle.dj_kinds.specs.Own.{HasOwnMethod}
-use Rattle.dj_kinds.specs.Choice.{Call, IsCandidate, IsMoreSpecific, IsMostSpecific, IsChosen}
+use Rattle.dj_kinds.specs.Own.{IsSeen, HasOwnMethod}
+use Rattle.dj_kinds.specs.Choice.{AllAssignable, Call, IsCandidate, IsMoreSpecific, IsMostSpecific, IsChosen}
 use Rattle.dj_members.specs.Tables.{member_names, IsListed, Covers}
 use Rattle.dj_members.specs.Picks.{IsPickedAt}
 use Rattle.dj_kinds.proofs.OwnLemmas.{one_place}
@@ -30,14 +31,14 @@ one_in Own one (class ∷ order) a b (inl here) (inr later) = absurd (later.0 a 
 one_in Own one (class ∷ order) a b (inr later) (inl there) = absurd (later.0 b there)
 one_in Own one (class ∷ order) a b (inr later) (inr last) = one_in Own one order a b later.1 last.1
 
-module _ (headers : List Header) (members : List ClassMembers) (Picks : List MethodHead → ℕ → Type 0) (start : Name) (distinct : HasDistinctNames headers)
-    (one : (methods : List MethodHead) (first second : ℕ) → Picks methods first → Picks methods second → first ≡ second) where
+module _ (headers : List Header) (members : List ClassMembers) (Picks : (MethodHead → Type 0) → List MethodHead → ℕ → Type 0) (start : Name) (distinct : HasDistinctNames headers)
+    (one : (class : Name) (methods : List MethodHead) (first second : ℕ) → Picks (IsSeen headers start class) methods first → Picks (IsSeen headers start class) methods second → first ≡ second) where
   one_own : (class : Name) (a b : Member) → HasOwnMethod headers members Picks start class a → HasOwnMethod headers members Picks start class b → a ≡ b
   one_own class a b first second =
       let place : a.class ≡ b.class = one_place headers class distinct a.class b.class first.class_at.named second.class_at.named in
       let own : first.declared ≡ second.declared = same_Some first.declared second.declared (sym first.class_at.there ∙ ap (λ k. slice_get members k) place ∙ second.class_at.there) in
       same_member a b place (first.is_method ∙ sym second.is_method)
-      (one second.declared.methods a.number b.number (subst (λ (o : ClassMembers). Picks o.methods a.number) own first.picked) second.picked)
+      (one class second.declared.methods a.number b.number (subst (λ (o : ClassMembers). Picks (IsSeen headers start class) o.methods a.number) own first.picked) second.picked)
 
   pub one_found : (order : List Name) (a b : Member) → IsFirstIn (HasOwnMethod headers members Picks start) order a → IsFirstIn (HasOwnMethod headers members Picks start) order b → a ≡ b
   one_found = one_in (HasOwnMethod headers members Picks start) one_own
@@ -100,3 +101,12 @@ module _ (headers : List Header) (classes : List ClassMembers) (names' : List Na
   alone_if member all other most =
       let l = listed other most.candidate in
       elim (some_of (slice_get members l.at) (Alone member) other l.is (all l.at l.named)) [ inl same ↦ same | inr not ↦ absurd (not most) ]
+
+-- ---- arguments
+
+-- arguments that are taken are as many as the parameters
+pub as_many : (headers : List Header) (froms : List StaticType) (tos : List JType) → AllAssignable headers froms tos → length froms ≡ length tos
+as_many headers [] [] all = refl
+as_many headers [] (to ∷ tos) all = absurd all
+as_many headers (from ∷ froms) [] all = absurd all
+as_many headers (from ∷ froms) (to ∷ tos) all = ap suc (as_many headers froms tos all.1)

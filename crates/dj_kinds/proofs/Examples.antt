@@ -1,11 +1,14 @@
 -- Orders of search and packages at worked examples, by computation: a wrong definition is refused here.
-use Rattle.std.proofs.Common.{◌≡◌, ℕ, List, [], ◌∷◌, Option, Some, None, refl}
+use Rattle.std.proofs.Common.{◌≡◌, ℕ, List, [], ◌∷◌, Option, Some, None, bytes_eq, inl, inr, refl, arith}
 use Rattle.std.specs.Prelude.{codes}
+use Rattle.std.proofs.lemmas.Bool.{both_ways}
+use Rattle.std.proofs.lemmas.Slice.Eq.{bytes_eq-Decides}
 use Rattle.dj_names.specs.declared.header.Header.{Header}
 use Rattle.dj_names.specs.Headers.{Name}
 use Rattle.dj_names.specs.Assignable.{object_name}
 use Rattle.dj_kinds.specs.Search.{classes_then_interfaces, method_order, field_order}
 use Rattle.dj_kinds.specs.Access.{package_of}
+use Rattle.dj_kinds.specs.Inherited.{IsInherited}
 
 -- a public class, or with 0x0601 an interface
 abbrev header : Name → Option Name → List Name → ℕ → Header
@@ -50,3 +53,29 @@ a_package = refl
 
 the_unnamed_package : package_of (codes "Main") ≡ []
 the_unnamed_package = refl
+
+-- ---- inheritance
+
+-- `class q.D extends t.C`, `class t.C extends q.P`, `class q.S extends q.P`
+abbrev packages : List Header
+packages =
+    header (codes "q/P") (Some object_name) [] 0x0021
+    ∷ header (codes "q/S") (Some (codes "q/P")) [] 0x0021
+    ∷ header (codes "t/C") (Some (codes "q/P")) [] 0x0021
+    ∷ header (codes "q/D") (Some (codes "t/C")) [] 0x0021
+    ∷ []
+
+-- what has package access stays in the package
+in_its_package : IsInherited packages (codes "q/S") (codes "q/P") 0x0000
+in_its_package = inr (inr (inr (λ bit. bit refl, record { path = codes "q/P" ∷ []; is_path = (((1, header (codes "q/S") (Some (codes "q/P")) [] 0x0021, omega arith, refl, (refl, refl)), refl), refl) })))
+
+-- what is protected goes on
+into_another_package : IsInherited packages (codes "t/C") (codes "q/P") 0x0004
+into_another_package = inr (inr (inl (λ none. absurd cc, record { path = codes "q/P" ∷ []; is_path = ((2, header (codes "t/C") (Some (codes "q/P")) [] 0x0021, omega arith, refl, (refl, refl)), refl) })))
+
+-- what is private is its class's alone
+private_alone : ¬ IsInherited packages (codes "q/S") (codes "q/P") 0x0002
+private_alone (inl same) = both_ways (bytes_eq (codes "q/S") (codes "q/P")) refl ((bytes_eq-Decides (codes "q/S") (codes "q/P")).1 same)
+private_alone (inr (inl public)) = public refl
+private_alone (inr (inr (inl protected))) = protected.0 refl
+private_alone (inr (inr (inr kept))) = kept.0 (λ none. absurd cc)

@@ -8,7 +8,7 @@ use Rattle.dj_names.specs.declared.members.ClassMembers.{ClassMembers}
 use Rattle.dj_names.specs.declared.members.Member.{Member}
 use Rattle.dj_names.specs.Headers.{Name, names, HasDistinctNames}
 use Rattle.dj_names.specs.Types.{JType}
-use Rattle.dj_kinds.specs.Own.{IsFirst, IsClassAt, IsFieldOf, HasOwnField, IsHidden, HasOwnMethod}
+use Rattle.dj_kinds.specs.Own.{IsFirst, IsClassAt, IsFieldOf, HasOwnField, IsSeen, HasOwnMethod}
 use Rattle.dj_kinds.proofs.HeaderLemmas.{named_within}
 
 not_two : (headers : List Header) (class : Name) → HasDistinctNames headers → (first second : ℕ) → first < second → slice_get (names headers) first ≡ Some class → slice_get (names headers) second ≡ Some class → ⊥
@@ -56,24 +56,10 @@ module _ (headers : List Header) (members : List ClassMembers) (class : Name) (p
       pub a_field : (number : ℕ) → IsFirst (IsFieldOf name type) own.fields number → HasOwnField headers members name type class (record { class = place; method = false; number = number })
       a_field number first = record { declared = own; class_at = here; is_field = refl; first = first }
 
-    module _ (Picks : List MethodHead → ℕ → Type 0) (start : Name) where
-      pub no_method : ((at : ℕ) → ¬ Picks own.methods at) → (member : Member) → ¬ HasOwnMethod headers members Picks start class member
+    module _ (Picks : (MethodHead → Type 0) → List MethodHead → ℕ → Type 0) (start : Name) where
+      pub no_method : ((at : ℕ) → ¬ Picks (IsSeen headers start class) own.methods at) → (member : Member) → ¬ HasOwnMethod headers members Picks start class member
       no_method none member is =
-          none member.number (subst (λ (o : ClassMembers). Picks o.methods member.number) (same_own member.class is.declared is.class_at) is.picked)
+          none member.number (subst (λ (o : ClassMembers). Picks (IsSeen headers start class) o.methods member.number) (same_own member.class is.declared is.class_at) is.picked)
 
-      pub a_method : (number : ℕ) (method : MethodHead) → Picks own.methods number → slice_get own.methods number ≡ Some method → ¬ IsHidden headers start class method
-          → HasOwnMethod headers members Picks start class (record { class = place; method = true; number = number })
-      a_method number method picked is seen = record {
-        declared = own;
-        class_at = here;
-        is_method = refl;
-        picked = picked;
-        seen = λ other other_is. subst (λ m. ¬ IsHidden headers start class m) (same_Some method other (sym is ∙ other_is)) seen;
-      }
-
-      pub hidden : (number : ℕ) (method : MethodHead) → ((at : ℕ) → Picks own.methods at → at ≡ number) → slice_get own.methods number ≡ Some method → IsHidden headers start class method
-          → (member : Member) → ¬ HasOwnMethod headers members Picks start class member
-      hidden number method only is is_hidden member has =
-          let same = same_own member.class has.declared has.class_at in
-          let at : member.number ≡ number = only member.number (subst (λ (o : ClassMembers). Picks o.methods member.number) same has.picked) in
-          has.seen method (ap (λ (o : ClassMembers). slice_get o.methods member.number) same ∙ ap (λ k. slice_get own.methods k) at ∙ is) is_hidden
+      pub a_method : (number : ℕ) → Picks (IsSeen headers start class) own.methods number → HasOwnMethod headers members Picks start class (record { class = place; method = true; number = number })
+      a_method number picked = record { declared = own; class_at = here; is_method = refl; picked = picked }

@@ -10,10 +10,11 @@ use Rattle.dj_kinds.specs.Own.{IsFirst, IsOverload, IsBridge, Counts}
 use Rattle.dj_members.specs.Picks.{PicksFirst}
 
 -- where all are bridges the first counts
-pub counts_any : (name : Name) (parameters : List JType) (methods : List MethodHead) (found : Option ℕ) → ((at : ℕ) → ¬ IsFirst (λ (method : MethodHead). IsOverload name parameters method × ¬ IsBridge method) methods at)
-    → FindsOne (IsFirst (IsOverload name parameters) methods) found → FindsOne (Counts name parameters methods) found
-counts_any name parameters methods None none first = λ at counts. elim counts [ inl plain ↦ none at plain | inr any ↦ first at any.1 ]
-counts_any name parameters methods (Some at) none first = inr (none, first)
+pub counts_any : (name : Name) (parameters : List JType) (Seen : MethodHead → Type 0) (methods : List MethodHead) (found : Option ℕ)
+    → ((at : ℕ) → ¬ IsFirst (λ (method : MethodHead). IsOverload name parameters method × Seen method × ¬ IsBridge method) methods at)
+    → FindsOne (IsFirst (λ (method : MethodHead). IsOverload name parameters method × Seen method) methods) found → FindsOne (Counts name parameters Seen methods) found
+counts_any name parameters Seen methods None none first = λ at counts. elim counts [ inl plain ↦ none at plain | inr any ↦ first at any.1 ]
+counts_any name parameters Seen methods (Some at) none first = inr (none, first)
 
 module _ {A : Type 0} (items : List A) (name_of : A → Name) (names : List Name) (name : Name) (names_are : names ≡ map name_of items) (Q H : A → Type 0) (same : (x : A) → ((name_of x ≡ name) × Q x) ↔ H x) where
   abbrev Picked : ℕ → Type 0

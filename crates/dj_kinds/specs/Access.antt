@@ -5,7 +5,7 @@ use Rattle.dj_names.specs.declared.members.Field.{Field}
 use Rattle.dj_names.specs.declared.members.MethodHead.{MethodHead}
 use Rattle.dj_names.specs.declared.members.ClassMembers.{ClassMembers}
 use Rattle.dj_names.specs.declared.members.Member.{Member}
-use Rattle.dj_names.specs.Headers.{Name, IsSubclass}
+use Rattle.dj_names.specs.Headers.{Name, IsInterface, IsSubclass}
 use Rattle.dj_names.specs.Types.{JType, Boolean, Byte, Char, Short, Int, Long, Float, Double, Class, Array, view_descriptor, parameters_of}
 use Rattle.dj_names.specs.Assignable.{object_name}
 use Rattle.dj_kinds.specs.Own.{IsClassAt}
@@ -33,15 +33,20 @@ IsBelow headers class Double = ⊥
 IsBelow headers class (Class name) = IsSubclass headers name class
 IsBelow headers class (Array element) = class ≡ object_name
 
--- a member of this class with these flags may be used in the class `from`, through an expression of a type or, for `super` and static members, none:
--- everywhere where it is public; in its class where it is private; else in its package; where it is protected, also in the classes below its own,
--- and there through such a class (6.6.1, 6.6.2)
+-- a protected member of this class may be used in a class below it, which is no interface, and what isn't static only through
+-- an expression of a type below that class or, for `super`, none (6.6.2)
+abbrev pub AllowsBelow : List Header → Name → Name → ℕ → Option JType → Type 0
+AllowsBelow headers from class flags through =
+    IsBitSet flags 2 × IsSubclass headers from class × ¬ IsInterface headers from × (IsBitSet flags 3 ⊎ IfSome through (IsBelow headers from))
+
+-- a member of this class with these flags may be used in the class `from`, through an expression of a type or none:
+-- everywhere where it is public; in its class where it is private; else in its package, and below its class where it is protected (6.6.1)
 abbrev pub Allows : List Header → Name → Name → ℕ → Option JType → Type 0
 Allows headers from class flags through =
     IsBitSet flags 0
     ⊎ (IsBitSet flags 1 × (from ≡ class))
     ⊎ (¬ IsBitSet flags 1 × (package_of from ≡ package_of class))
-    ⊎ (IsBitSet flags 2 × IsSubclass headers from class × IfSome through (IsBelow headers from))
+    ⊎ AllowsBelow headers from class flags through
 
 -- the flags of the methods, or of the fields, of a class
 abbrev pub flags_of : Bool → ClassMembers → List ℕ

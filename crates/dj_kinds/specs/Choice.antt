@@ -4,12 +4,13 @@ use Rattle.dj_names.specs.declared.header.Header.{Header}
 use Rattle.dj_names.specs.declared.members.MethodHead.{MethodHead}
 use Rattle.dj_names.specs.declared.members.ClassMembers.{ClassMembers}
 use Rattle.dj_names.specs.declared.members.Member.{Member}
-use Rattle.dj_names.specs.Headers.{Name}
+use Rattle.dj_names.specs.Headers.{Name, names}
 use Rattle.dj_names.specs.Types.{JType, Boolean, Byte, Char, Short, Int, Long, Float, Double, Class, Array, StaticType, view_descriptor, parameters_of}
 use Rattle.dj_names.specs.Assignable.{object_name, IsSubtype, IsAssignable}
 use Rattle.dj_kinds.specs.Own.{Counts}
 use Rattle.dj_kinds.specs.Found.{IsFoundBy}
 use Rattle.dj_kinds.specs.Access.{IsAccessible}
+use Rattle.dj_kinds.specs.Inherited.{IsInherited}
 
 -- the class in which the methods of a type are searched for; an array has those of Object (JLS 10.7)
 abbrev pub searched_class : JType → Option Name
@@ -58,17 +59,20 @@ pub record Call : Type 0 where
   pub name : Name
   pub arguments : List StaticType
 
--- a class has the member: of the methods of its name and parameters it is the first in the order of search (15.12.2.1)
+-- of the methods of its name and parameters the member is the first in the order of search: so one that is overridden isn't meant,
+-- and of equal ones one alone (a rule of our own, where 8.4.8 and 15.12.2.5 speak of methods that override and of equal signatures)
 abbrev pub IsHeld : List Header → List ClassMembers → Name → Member → MethodHead → Type 0
 IsHeld headers members class member method = IsFoundBy (Counts method.name (parameters method)) headers members class method.name member
 
--- the call could mean the member: it has the name, takes the arguments as they are, and may be used (15.12.2.1, 15.12.2.2)
+-- the call could mean the member: it has the name, takes the arguments as they are, is a member of the class in which it is searched for,
+-- and may be used (8.2, 15.12.2.1, 15.12.2.2)
 pub record IsCandidate (headers : List Header) (members : List ClassMembers) (call : Call) (member : Member) : Type 0 where
   pub method : MethodHead
   pub is_method : IsMethodAt members member method
   pub named : method.name ≡ call.name
   pub applicable : AllAssignable headers call.arguments (parameters method)
   pub held : IsHeld headers members call.class member method
+  pub inherited : IsSomeAnd (slice_get (names headers) member.class) (λ owner. IsInherited headers call.class owner method.flags)
   pub accessible : IsAccessible headers members call.from member call.through
 
 -- what the one takes the other takes too (15.12.2.5)

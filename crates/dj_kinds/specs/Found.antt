@@ -7,15 +7,15 @@ use Rattle.dj_names.specs.declared.members.Member.{Member}
 use Rattle.dj_names.specs.Headers.{Name}
 use Rattle.dj_names.specs.Types.{JType, Descriptor}
 use Rattle.dj_kinds.specs.Search.{method_order, field_order, IsFirstIn}
-use Rattle.dj_kinds.specs.Own.{IsFirst, HasOwnField, IsMethodOf, HasOwnMethod}
+use Rattle.dj_kinds.specs.Own.{HasOwnField, IsFirstOf, HasOwnMethod}
 
--- the first method in the order of search, by what picks one among the methods of a class
-abbrev pub IsFoundBy : (List MethodHead → ℕ → Type 0) → List Header → List ClassMembers → Name → Name → Member → Type 0
+-- the first method in the order of search, by what picks one among the methods of a class that are seen
+abbrev pub IsFoundBy : ((MethodHead → Type 0) → List MethodHead → ℕ → Type 0) → List Header → List ClassMembers → Name → Name → Member → Type 0
 IsFoundBy Picks headers members class name = IsFirstIn (HasOwnMethod headers members Picks class) (method_order headers name class)
 
 -- the method of this name and descriptor that is found from a class
 abbrev pub IsFoundMethod : List Header → List ClassMembers → Name → Name → Descriptor → Member → Type 0
-IsFoundMethod headers members class name descriptor = IsFoundBy (IsFirst (IsMethodOf name descriptor)) headers members class name
+IsFoundMethod headers members class name descriptor = IsFoundBy (IsFirstOf name descriptor) headers members class name
 
 -- the field of this name and type that is found from a class
 abbrev pub IsFoundField : List Header → List ClassMembers → Name → Name → JType → Member → Type 0

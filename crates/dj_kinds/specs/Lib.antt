@@ -3,6 +3,7 @@ pub mod Search
 pub mod Own
 pub mod Found
 pub mod Access
+pub mod Inherited
 pub mod Choice
 pub mod Kinds
 -- What the functions inside the crate promise each other.

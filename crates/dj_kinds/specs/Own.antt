@@ -47,20 +47,31 @@ IsOverload name parameters method = (method.name ≡ name) × (parameters_of (vi
 abbrev pub IsBridge : MethodHead → Type 0
 IsBridge method = IsBitSet method.flags 6
 
--- of the methods of one name and parameters the first counts that is no bridge, and where all are bridges the first
-abbrev pub Counts : Name → List JType → List MethodHead → ℕ → Type 0
-Counts name parameters methods at =
-    IsFirst (λ method. IsOverload name parameters method × ¬ IsBridge method) methods at
-    ⊎ (((other : ℕ) → ¬ IsFirst (λ method. IsOverload name parameters method × ¬ IsBridge method) methods other) × IsFirst (IsOverload name parameters) methods at)
-
 -- a static or private method of an interface isn't seen from a class below it (JLS 8.4.8; JVMS 5.4.3.3)
-abbrev pub IsHidden : List Header → Name → Name → MethodHead → Type 0
-IsHidden headers start class method = (start ≢ class) × IsInterface headers class × (IsBitSet method.flags 3 ⊎ IsBitSet method.flags 1)
+abbrev pub IsHiddenBelow : List Header → Name → Name → MethodHead → Type 0
+IsHiddenBelow headers start class method = (start ≢ class) × IsInterface headers class × (IsBitSet method.flags 3 ⊎ IsBitSet method.flags 1)
 
--- the class has the method itself, by what picks one among its methods, and it is seen where the search starts
-pub record HasOwnMethod (headers : List Header) (members : List ClassMembers) (Picks : List MethodHead → ℕ → Type 0) (start class : Name) (member : Member) : Type 0 where
+-- of a class, which is Object there, an interface sees only what is public and not static (JLS 9.2; JVMS 5.4.3.4)
+abbrev pub IsHiddenInObject : List Header → Name → Name → MethodHead → Type 0
+IsHiddenInObject headers start class method = IsInterface headers start × ¬ IsInterface headers class × (¬ IsBitSet method.flags 0 ⊎ IsBitSet method.flags 3)
+
+-- a method of a class is seen by a search that starts at a class
+abbrev pub IsSeen : List Header → Name → Name → MethodHead → Type 0
+IsSeen headers start class method = ¬ IsHiddenBelow headers start class method × ¬ IsHiddenInObject headers start class method
+
+-- the first of these methods that has the name and the descriptor and is seen
+abbrev pub IsFirstOf : Name → Descriptor → (MethodHead → Type 0) → List MethodHead → ℕ → Type 0
+IsFirstOf name descriptor Seen = IsFirst (λ method. IsMethodOf name descriptor method × Seen method)
+
+-- of the methods of one name and parameters that are seen the first counts that is no bridge, and where all are bridges the first
+abbrev pub Counts : Name → List JType → (MethodHead → Type 0) → List MethodHead → ℕ → Type 0
+Counts name parameters Seen methods at =
+    IsFirst (λ method. IsOverload name parameters method × Seen method × ¬ IsBridge method) methods at
+    ⊎ (((other : ℕ) → ¬ IsFirst (λ method. IsOverload name parameters method × Seen method × ¬ IsBridge method) methods other) × IsFirst (λ method. IsOverload name parameters method × Seen method) methods at)
+
+-- the class has the method itself, by what picks one among those of its methods that are seen where the search starts
+pub record HasOwnMethod (headers : List Header) (members : List ClassMembers) (Picks : (MethodHead → Type 0) → List MethodHead → ℕ → Type 0) (start class : Name) (member : Member) : Type 0 where
   pub declared : ClassMembers
   pub class_at : IsClassAt headers members class member.class declared
   pub is_method : member.method ≡ true
-  pub picked : Picks declared.methods member.number
-  pub seen : (method : MethodHead) → slice_get declared.methods member.number ≡ Some method → ¬ IsHidden headers start class method
+  pub picked : Picks (IsSeen headers start class) declared.methods member.number

@@ -19,8 +19,8 @@ first_one H items one other a b =
       ]
     ]
 
-pub counts_one : (name : Name) (parameters : List JType) (methods : List MethodHead) (one other : ℕ) → Counts name parameters methods one → Counts name parameters methods other → one ≡ other
-counts_one name parameters methods one other (inl a) (inl b) = first_one (λ (method : MethodHead). IsOverload name parameters method × ¬ IsBridge method) methods one other a b
-counts_one name parameters methods one other (inl a) (inr b) = absurd (b.0 one a)
-counts_one name parameters methods one other (inr a) (inl b) = absurd (a.0 other b)
-counts_one name parameters methods one other (inr a) (inr b) = first_one (IsOverload name parameters) methods one other a.1 b.1
+pub counts_one : (name : Name) (parameters : List JType) (Seen : MethodHead → Type 0) (methods : List MethodHead) (one other : ℕ) → Counts name parameters Seen methods one → Counts name parameters Seen methods other → one ≡ other
+counts_one name parameters Seen methods one other (inl a) (inl b) = first_one (λ (method : MethodHead). IsOverload name parameters method × Seen method × ¬ IsBridge method) methods one other a b
+counts_one name parameters Seen methods one other (inl a) (inr b) = absurd (b.0 one a)
+counts_one name parameters Seen methods one other (inr a) (inl b) = absurd (a.0 other b)
+counts_one name parameters Seen methods one other (inr a) (inr b) = first_one (λ (method : MethodHead). IsOverload name parameters method × Seen method) methods one other a.1 b.1

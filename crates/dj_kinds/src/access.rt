@@ -3,7 +3,7 @@
 ghost use Rattle.std.specs.Prelude.{◌≡◌, ◌↔◌, ◌⊎◌, Some, IsTrue, IfSome, IsSomeAnd, MatchOption, slice_get};
 ghost use Rattle.std.specs.Option.{option_copied, option_map};
 ghost use Rattle.dj_names.specs.Types.{view_type};
-ghost use Rattle.dj_kinds.specs.Access.{package_of, IsBelow, Allows, IsArray, IsClone, IsAccessible, flags_of};
+ghost use Rattle.dj_kinds.specs.Access.{package_of, IsBelow, AllowsBelow, Allows, IsArray, IsClone, IsAccessible, flags_of};
 
 use crate::search::header_at;
 use crate::types::parameters_of;
@@ -25,7 +25,7 @@ fn package_of(name: &[u16]) -> &[u16]
 }
 
 /// Whether two classes are of one package.
-fn is_same_package(first: &ClassName, second: &ClassName) -> bool
+pub fn is_same_package(first: &ClassName, second: &ClassName) -> bool
     ensures same { IsTrue result ↔ (package_of first.now ≡ package_of second.now) }
 {
     package_of(first.as_slice()) == package_of(second.as_slice())
@@ -59,6 +59,22 @@ fn is_through(headers: &Headers, class: &ClassName, through: Option<&JType>) -> 
     }
 }
 
+/// Whether a protected member of a class may be used in a class below it.
+fn allows_below(
+    headers: &Headers,
+    from: &ClassName,
+    class: &ClassName,
+    flags: u16,
+    through: Option<&JType>,
+) -> bool
+    ensures allows { IsTrue result ↔ AllowsBelow headers.now from.now class.now flags (option_map view_type (option_copied through.entry)) }
+{
+    flags & 0x0004 != 0
+        && headers.is_subclass(from, class)
+        && !headers.is_interface(from)
+        && (flags & 0x0008 != 0 || is_through(headers, from, through))
+}
+
 /// Whether a member of a class with these flags may be used in another class.
 fn allows(
     headers: &Headers,
@@ -78,7 +94,7 @@ fn allows(
     if flags & 0x0002 == 0 && is_same_package(from, class) {
         return true;
     }
-    flags & 0x0004 != 0 && headers.is_subclass(from, class) && is_through(headers, from, through)
+    allows_below(headers, from, class, flags, through)
 }
 
 /// The flags of a member of a class, if it is there.

@@ -1,13 +1,15 @@
 //! The methods that a call could mean (JLS 15.12.2.1, 15.12.2.2).
 
-ghost use Rattle.std.specs.Prelude.{◌≡◌, ◌↔◌, IsTrue, IfSome, IfNone};
+ghost use Rattle.std.specs.Prelude.{◌≡◌, ◌↔◌, IsTrue, IfSome, IfNone, map};
 ghost use Rattle.dj_names.specs.declared.members.MethodHead.{MethodHead};
-ghost use Rattle.dj_kinds.specs.Choice.{IsMethodAt, IsHeld, IsCandidate, IsMoreSpecific};
+ghost use Rattle.dj_names.specs.Types.{view_static};
+ghost use Rattle.dj_kinds.specs.Choice.{AllAssignable, parameters, IsMethodAt, IsHeld, IsCandidate, IsMoreSpecific};
 ghost use Rattle.dj_kinds.specs.Search.{FindsOne};
 ghost use Rattle.dj_kinds.specs.Asking.{call_of};
 
 use crate::access::is_accessible;
 use crate::find::find_picked;
+use crate::inherited::is_member_of;
 use crate::pickers::Overload;
 use crate::types::{are_assignable, are_subtypes, parameters_of};
 use dj_headers::Headers;
@@ -60,6 +62,15 @@ fn is_held(asked: &Asked<'_>, member: Member, method: &MethodHead) -> bool
     }
 }
 
+/// Whether a method takes the arguments of a call. Their number is looked at first.
+fn takes_arguments(asked: &Asked<'_>, method: &MethodHead) -> bool
+    ensures takes { IsTrue result ↔ AllAssignable asked.now.headers.now (map view_static asked.now.arguments.now) (parameters method.now) }
+{
+    let parameters = parameters_of(&method.descriptor);
+    parameters.len() == asked.arguments.len()
+        && are_assignable(asked.headers, asked.arguments, parameters)
+}
+
 /// Whether a call could mean a member. What is cheap is looked at first.
 pub fn is_candidate(asked: &Asked<'_>, member: Member) -> bool
     ensures candidate { IsTrue result ↔ IsCandidate asked.now.headers.now asked.now.members.now (call_of asked.now) member }
@@ -68,12 +79,9 @@ pub fn is_candidate(asked: &Asked<'_>, member: Member) -> bool
         None => false,
         Some(method) => {
             method.name == *asked.name
-                && are_assignable(
-                    asked.headers,
-                    asked.arguments,
-                    parameters_of(&method.descriptor),
-                )
+                && takes_arguments(asked, method)
                 && is_held(asked, member, method)
+                && is_member_of(asked.headers, asked.class, member, method.flags)
                 && is_accessible(
                     asked.headers,
                     asked.members,

@@ -7,10 +7,12 @@ mod access;
 mod candidates;
 mod choice;
 mod find;
+mod inherited;
 mod kinds;
 mod own;
 mod pickers;
 mod search;
+mod seen;
 mod types;
 
 pub use access::is_accessible;

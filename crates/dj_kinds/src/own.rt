@@ -1,23 +1,15 @@
 //! Which members a class has itself.
 
-ghost use Rattle.std.specs.Prelude.{◌≡◌, ◌↔◌, IsTrue};
+ghost use Rattle.std.specs.Prelude.{◌≡◌};
 ghost use Rattle.dj_names.specs.Types.{view_type};
-ghost use Rattle.dj_kinds.specs.Own.{HasOwnField, HasOwnMethod, IsHidden};
+ghost use Rattle.dj_kinds.specs.Own.{HasOwnField, HasOwnMethod};
 
 use crate::pickers::{MethodPicker, first_field};
 use crate::search::{Declares, Listing, place_of};
+use crate::seen::View;
 use dj_headers::Headers;
 use dj_members::MemberTable;
-use dj_names::{ClassName, JType, Member, MethodHead, Units};
-
-/// Whether a method isn't seen from where a search starts.
-fn is_hidden(headers: &Headers, start: &ClassName, class: &ClassName, method: &MethodHead) -> bool
-    ensures hidden { IsTrue result ↔ IsHidden headers.now start.now class.now method.now }
-{
-    start != class
-        && headers.is_interface(class)
-        && (method.flags & 0x0008 != 0 || method.flags & 0x0002 != 0)
-}
+use dj_names::{ClassName, JType, Member, Units};
 
 /// A field's name and type.
 #[derive(Clone, Copy)]
@@ -77,23 +69,19 @@ impl<P: MethodPicker> Declares for OwnMethod<'_, P> {
         let Some(own) = self.members.at(place) else {
             return None;
         };
-        let methods = own.methods.as_slice();
-        match self
-            .picker
-            .pick(methods, &self.members.names_at(place).methods)
-        {
+        let view = View {
+            headers: self.headers,
+            start: self.start,
+            class,
+        };
+        let names = &self.members.names_at(place).methods;
+        match self.picker.pick(view, own.methods.as_slice(), names) {
+            Some(number) => Some(Member {
+                class: place as u32,
+                method: true,
+                number: number as u32,
+            }),
             None => None,
-            Some(number) => {
-                if is_hidden(self.headers, self.start, class, &methods[number]) {
-                    None
-                } else {
-                    Some(Member {
-                        class: place as u32,
-                        method: true,
-                        number: number as u32,
-                    })
-                }
-            }
         }
     }
 

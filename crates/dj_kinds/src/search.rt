@@ -79,7 +79,7 @@ fn interfaces_of<'a>(headers: &'a Headers, class: &ClassName) -> &'a [ClassName]
 }
 
 /// The superclass that the header of a class names.
-fn superclass_of<'a>(headers: &'a Headers, class: &ClassName) -> Option<&'a ClassName>
+pub fn superclass_of<'a>(headers: &'a Headers, class: &ClassName) -> Option<&'a ClassName>
     ensures superclass { option_copied result ≡ superclass_in (header_of headers.now class.now) }
 {
     match header_of(headers, class) {

@@ -13,7 +13,8 @@ use Rattle.dj_headers.proofs.HeaderLemmas.{named_at, HasDistinctNames-push}
 use Rattle.dj_headers.proofs.PathLemmas.{Any-before, Any-push_cases, join_paths, Implements-own, Implements-before, Implements-cases, HasParent-last, HasParent-cases}
 use Rattle.dj_world.specs.declared.fault.ClashKind.{ClashKind}
 use Rattle.dj_world.specs.declared.fault.ClashKind.TheVariants as clash
-use Rattle.dj_world.specs.Clashes.{HasCircle, IsFinal, IsClass, HasFinalSuper, HasWrongKind, IsLawful, Clashes, number_of, IsLeastClash, MayBeAdded, IsWantedOtherwise}
+use Rattle.dj_world.specs.Clashes.{HasCircle, IsFinal, IsClass, HasFinalSuper, HasWrongKind, IsLawful, Clashes, number_of, IsLeastClash, MayBeAdded}
+use Rattle.dj_world.specs.Wanting.{IsWantedOtherwise}
 use Rattle.dj_world.specs.Worlds.{IsWorld}
 
 some_and : {A : Type 0} (P : A → Type 0) (found : Option A) (x : A) → found ≡ Some x → P x → IsSomeAnd found P

@@ -1,5 +1,6 @@
 -- Sets of names, as they learn names.
-use Rattle.std.proofs.Common.{◌≡◌, ◌⊎◌, ◌↔◌, ℕ, ◌+◌, ◌<◌, ◌≤◌, List, [], ◌∷◌, ◌++◌, Any, length, take, get_or, true, cond, sym, ap, subst, inl, inr, ◌∙◌, arith}
+use Rattle.std.proofs.Common.{◌≡◌, ◌⊎◌, ◌↔◌, ℕ, ◌+◌, ◌<◌, ◌≤◌, List, [], ◌∷◌, ◌++◌, Any, length, take, get_or, true, cond, IsTrue, sym, ap, subst, inl, inr, ◌∙◌, arith}
+use Rattle.std.specs.List.{list_any}
 use Rattle.std.specs.Ordering.{nat_cmp}
 use Rattle.std.specs.Cmp.Lexicographic.{slice_cmp}
 use Rattle.std.specs.BTreeMap.{is_at}
@@ -12,7 +13,7 @@ use Rattle.std.proofs.lemmas.Map.Lookups.{exact_bytes}
 use Rattle.std.proofs.lemmas.Map.Views.{tells_apart}
 use Rattle.dj_names.specs.Headers.{Name}
 use Rattle.dj_headers.proofs.PathLemmas.{Any-before, Any-push_cases}
-use Rattle.dj_world.specs.Learning.{Has, Learns}
+use Rattle.dj_world.specs.Learning.{Has, Learns, LearnsSome}
 
 pub learns_added : (old new : BTreeSet Name) (key name : Name) → key ≡ name → Updates (slice_cmp nat_cmp) old new key true → Learns old new (λ other. name ≡ other)
 learns_added old new key name same updates = record {
@@ -56,13 +57,35 @@ learns_then old between new P Q first second = record {
   );
 }
 
+pub some_learned : (old new : BTreeSet Name) (P : Name → Type 0) → Learns old new P → LearnsSome old new P
+some_learned old new P learns = record { kept = λ name had. (learns.each name).1 (inl had); only = λ name has. (learns.each name).0 has }
+
+-- a set with the same keys learned nothing
+pub some_same : (old new : BTreeSet Name) (P : Name → Type 0) → new.keys ≡ old.keys → LearnsSome old new P
+some_same old new P same = record {
+  kept = λ name had. subst (λ (ks : List Name). IsTrue (list_any (is_at (slice_cmp nat_cmp name)) ks)) (sym same) had;
+  only = λ name has. inl (subst (λ (ks : List Name). IsTrue (list_any (is_at (slice_cmp nat_cmp name)) ks)) same has);
+}
+
+pub some_like : (old new : BTreeSet Name) (P Q : Name → Type 0) → ((name : Name) → P name → Q name) → LearnsSome old new P → LearnsSome old new Q
+some_like old new P Q like some = record {
+  kept = some.kept;
+  only = λ name has. elim (some.only name has) [ inl had ↦ inl had | inr holds ↦ inr (like name holds) ];
+}
+
+pub some_then : (old between new : BTreeSet Name) (P : Name → Type 0) → LearnsSome old between P → LearnsSome between new P → LearnsSome old new P
+some_then old between new P first second = record {
+  kept = λ name had. second.kept name (first.kept name had);
+  only = λ name has. elim (second.only name has) [ inl earlier ↦ first.only name earlier | inr holds ↦ inr holds ];
+}
+
 -- ---- a loop over a list
 
 module _ {A : Type 0} (P : Name → A → Type 0) (xs : List A) where
   pub learned_none : (names : BTreeSet Name) → Learns names names (λ name. Any (P name) (take 0 xs))
   learned_none names = learns_none names (λ name. Any (P name) (take 0 xs)) (λ name some. (let within = some.2 in omega arith))
 
-  one_more : (i : ℕ) (x : A) (name : Name) → i < length xs → x ≡ get_or xs i x → (Any (P name) (take i xs) ⊎ P name x) ↔ Any (P name) (take (i + 1) xs)
+  pub one_more : (i : ℕ) (x : A) (name : Name) → i < length xs → x ≡ get_or xs i x → (Any (P name) (take i xs) ⊎ P name x) ↔ Any (P name) (take (i + 1) xs)
   one_more i x name within is =
       let longer : take (i + 1) xs ≡ take i xs ++ x ∷ [] = take_more xs i x within ∙ ap (λ (y : A). take i xs ++ y ∷ []) (sym is) in (
         λ either. subst (Any (P name)) (sym longer) (elim either [

@@ -1,5 +1,5 @@
 -- Which class may be added to others (JVMS 4.1, 4.10, 5.3.5).
-use Rattle.std.specs.Prelude.{◌≡◌, ℕ, ◌≤◌, List, [], ◌∷◌, ◌++◌, Any, Contains, IsBitSet, ◌⊎◌, Some}
+use Rattle.std.specs.Prelude.{◌≡◌, ℕ, ◌≤◌, List, [], ◌∷◌, ◌++◌, Any, Contains, IsBitSet, ◌⊎◌}
 use Rattle.dj_names.specs.declared.header.Header.{Header}
 use Rattle.dj_names.specs.Headers.{Name, names, HasDistinctNames, IsInterface, HasSuperclass, HasInterface, HasParent, Implements}
 use Rattle.dj_world.specs.declared.fault.ClashKind.{ClashKind}
@@ -74,11 +74,3 @@ pub record IsLeastClash (headers : List Header) (header : Header) (kind : ClashK
 -- a class of this header clashes with none
 abbrev pub MayBeAdded : List Header → Header → Type 0
 MayBeAdded headers header = (kind : ClashKind) → ¬ Clashes headers header kind
-
--- ---- inside the crate
-
--- some header wants a class of this header's name to be of the other kind
-abbrev pub IsWantedOtherwise : List Header → Header → Type 0
-IsWantedOtherwise headers header =
-    (IsBitSet header.flags 9 × Any (λ other. other.superclass ≡ Some header.name) headers)
-    ⊎ (¬ IsBitSet header.flags 9 × Any (λ other. Contains other.interfaces header.name) headers)

@@ -13,3 +13,8 @@ Has names name = IsTrue (set.contains (slice_cmp nat_cmp) names name)
 -- the new set has the names of the old one and those of which this holds
 pub record Learns (old new : BTreeSet Name) (P : Name → Type 0) : Type 0 where
   pub each : (name : Name) → Has new name ↔ (Has old name ⊎ P name)
+
+-- the new set has the names of the old one, and no others but such of which this holds
+pub record LearnsSome (old new : BTreeSet Name) (P : Name → Type 0) : Type 0 where
+  pub kept : (name : Name) → Has old name → Has new name
+  pub only : (name : Name) → Has new name → Has old name ⊎ P name

@@ -5,3 +5,4 @@ pub mod Worlds
 pub mod Filling
 -- What the functions inside the crate promise each other.
 pub mod Learning
+pub mod Wanting

@@ -1,12 +1,15 @@
 //! What stands against adding a class to headers (JVMS 4.10, 5.3.5).
 
-ghost use Rattle.std.specs.Prelude.{◌≡◌, ◌↔◌, ◌⊎◌, ◌++◌, [], ◌∷◌, Some, None, IsTrue, IsSomeAnd, Any, Contains, MatchOption, IsBitSet};
+ghost use Rattle.std.specs.Prelude.{◌≡◌, ◌↔◌, ◌⊎◌, ◌++◌, List, [], ◌∷◌, Some, None, IsTrue, IsSomeAnd, Any, Contains, MatchOption, IsBitSet};
+ghost use Rattle.dj_names.specs.declared.header.Header.{Header};
 ghost use Rattle.dj_names.specs.Headers.{names, IsInterface, Implements};
 ghost use Rattle.dj_headers.specs.Table.{IsParent, IsAbove};
-ghost use Rattle.dj_world.specs.Clashes.{HasCircle, HasFinalSuper, HasWrongKind, IsFinal, IsClass, IsLawful, IsLeastClash, MayBeAdded, IsWantedOtherwise};
+ghost use Rattle.dj_world.specs.Clashes.{HasCircle, HasFinalSuper, HasWrongKind, IsFinal, IsClass, IsLawful, IsLeastClash, MayBeAdded};
+ghost use Rattle.dj_world.specs.Wanting.{WantsAsSuperclass, IsWantedOtherwise, KnowsAll};
 
 use crate::fault::ClashKind;
-use crate::parents::{is_class, is_final, is_final_header, is_listed, is_superclass, is_there};
+use crate::parents::{is_class, is_final, is_final_header, is_there};
+use crate::wanted::Wanted;
 use dj_headers::Headers;
 use dj_names::{ClassName, Header};
 
@@ -55,19 +58,20 @@ fn is_below_final(headers: &Headers, superclass: &Option<ClassName>) -> bool
 }
 
 /// Whether a header is final, and one that is there names its class as a superclass.
-fn is_final_above(headers: &[Header], header: &Header) -> bool
-    ensures exact { IsTrue result ↔ (IsBitSet header.now.flags 4 × Any (λ other. other.superclass ≡ Some header.now.name) headers.now) }
+fn is_final_above(wanted: &Wanted, header: &Header) -> bool
+    ensures exact { (headers : List Header) → KnowsAll headers wanted.now → IsTrue result ↔ (IsBitSet header.now.flags 4 × Any (WantsAsSuperclass header.now.name) headers) }
 {
-    is_final_header(header) && is_superclass(headers, &header.name)
+    is_final_header(header) && wanted.is_superclass(&header.name)
 }
 
 /// Whether a class would have a final superclass.
-fn has_final_super(headers: &Headers, header: &Header) -> bool
+fn has_final_super(headers: &Headers, wanted: &Wanted, header: &Header) -> bool
     requires lawful { IsLawful headers.now }
+    requires wanted { KnowsAll headers.now wanted.now }
     requires no_circle { ¬ HasCircle (headers.now ++ header.now ∷ []) }
     ensures exact { IsTrue result ↔ HasFinalSuper (headers.now ++ header.now ∷ []) }
 {
-    is_below_final(headers, &header.superclass) || is_final_above(headers.as_slice(), header)
+    is_below_final(headers, &header.superclass) || is_final_above(wanted, header)
 }
 
 /// Whether a superclass, if there is one, is an interface.
@@ -90,46 +94,48 @@ fn has_class(headers: &Headers, interfaces: &[ClassName]) -> bool
 }
 
 /// Whether a header stands where those that are there want the other kind.
-fn is_wanted_otherwise(headers: &[Header], header: &Header) -> bool
-    ensures exact { IsTrue result ↔ IsWantedOtherwise headers.now header.now }
+fn is_wanted_otherwise(wanted: &Wanted, header: &Header) -> bool
+    ensures exact { (headers : List Header) → KnowsAll headers wanted.now → IsTrue result ↔ IsWantedOtherwise headers header.now }
 {
     if header.flags & INTERFACE != 0 {
-        is_superclass(headers, &header.name)
+        wanted.is_superclass(&header.name)
     } else {
-        is_listed(headers, &header.name)
+        wanted.is_listed(&header.name)
     }
 }
 
 /// Whether a class would list a class as an interface, or is not what others want it to be.
-fn has_wrong_interface(headers: &Headers, header: &Header) -> bool
+fn has_wrong_interface(headers: &Headers, wanted: &Wanted, header: &Header) -> bool
+    requires wanted { KnowsAll headers.now wanted.now }
     ensures exact { IsTrue result ↔ (Any (IsClass headers.now) header.now.interfaces ⊎ IsWantedOtherwise headers.now header.now) }
 {
-    has_class(headers, header.interfaces.as_slice())
-        || is_wanted_otherwise(headers.as_slice(), header)
+    has_class(headers, header.interfaces.as_slice()) || is_wanted_otherwise(wanted, header)
 }
 
 /// Whether a superclass would be an interface, or a listed interface a class.
-fn has_wrong_kind(headers: &Headers, header: &Header) -> bool
+fn has_wrong_kind(headers: &Headers, wanted: &Wanted, header: &Header) -> bool
     requires lawful { IsLawful headers.now }
+    requires wanted { KnowsAll headers.now wanted.now }
     requires fresh { ¬ Contains (names headers.now) header.now.name }
     requires no_circle { ¬ HasCircle (headers.now ++ header.now ∷ []) }
     ensures exact { IsTrue result ↔ HasWrongKind (headers.now ++ header.now ∷ []) }
 {
-    is_below_interface(headers, &header.superclass) || has_wrong_interface(headers, header)
+    is_below_interface(headers, &header.superclass) || has_wrong_interface(headers, wanted, header)
 }
 
 /// The clash of the least number that a class of this header would give.
-pub fn clash_of(headers: &Headers, header: &Header) -> Option<ClashKind>
+pub fn clash_of(headers: &Headers, wanted: &Wanted, header: &Header) -> Option<ClashKind>
     requires lawful { IsLawful headers.now }
+    requires wanted { KnowsAll headers.now wanted.now }
     ensures clash { MatchOption result (MayBeAdded headers.now header.now) (IsLeastClash headers.now header.now) }
 {
     if is_there(headers, &header.name) {
         Some(ClashKind::Twice)
     } else if closes_circle(headers, header) {
         Some(ClashKind::Cycle)
-    } else if has_final_super(headers, header) {
+    } else if has_final_super(headers, wanted, header) {
         Some(ClashKind::SuperIsFinal)
-    } else if has_wrong_kind(headers, header) {
+    } else if has_wrong_kind(headers, wanted, header) {
         Some(ClashKind::SuperKind)
     } else {
         None

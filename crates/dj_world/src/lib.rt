@@ -8,6 +8,7 @@ mod fault;
 mod members;
 mod named;
 mod parents;
+mod wanted;
 mod world;
 
 pub use fault::{AddFault, ClashKind};

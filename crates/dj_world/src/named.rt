@@ -9,7 +9,7 @@ ghost use Rattle.dj_names.specs.Types.{view_type, view_descriptor};
 ghost use Rattle.dj_names.specs.ClassNames.{IsClassName};
 ghost use Rattle.dj_pool.specs.PoolFormat.{text_at};
 ghost use Rattle.dj_world.specs.Named.{class_of, NamesClass, IsInDescriptor, IsInClassText, IsInClassEntry, IsInNameAndType, IsInEntry, AreNamed};
-ghost use Rattle.dj_world.specs.Learning.{Learns};
+ghost use Rattle.dj_world.specs.Learning.{Learns, LearnsSome};
 
 use dj_class::{ClassFile, Entry, Method, Pool};
 use dj_names::{ClassName, Descriptor, Field, Items, JType};
@@ -35,8 +35,13 @@ fn class_of(kind: &JType) -> Option<&ClassName>
 }
 
 /// Adds a name.
-fn learn(alloc: Global, names: &mut BTreeSet<ClassName>, name: &ClassName) -> Result<(), AllocError>
+pub fn learn(
+    alloc: Global,
+    names: &mut BTreeSet<ClassName>,
+    name: &ClassName,
+) -> Result<(), AllocError>
     ensures learns { OnOk result (Learns names.old names.new (λ other. name.now ≡ other)) }
+    ensures some { LearnsSome names.old names.new (λ other. name.now ≡ other) }
 {
     names.insert(name.copy(alloc)?)?;
     Ok(())

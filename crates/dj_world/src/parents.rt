@@ -1,7 +1,7 @@
-//! Which headers name a class right above them, and which classes are final.
+//! Which classes there are, and which are final.
 
-ghost use Rattle.std.specs.Prelude.{◌≡◌, ◌↔◌, Some, IsTrue, Any, Contains, IsBitSet};
-ghost use Rattle.dj_names.specs.Headers.{names, HasDistinctNames, IsInterface};
+ghost use Rattle.std.specs.Prelude.{◌↔◌, IsTrue, Contains, IsBitSet};
+ghost use Rattle.dj_names.specs.Headers.{names, HasDistinctNames};
 ghost use Rattle.dj_world.specs.Clashes.{IsFinal, IsClass};
 
 use dj_headers::Headers;
@@ -9,37 +9,6 @@ use dj_names::{ClassName, Header};
 
 /// ACC_FINAL.
 const FINAL: u16 = 0x0010;
-
-/// Whether a header names the class as its superclass.
-fn has_superclass(header: &Header, class: &ClassName) -> bool
-    ensures exact { IsTrue result ↔ (header.now.superclass ≡ Some class.now) }
-{
-    match &header.superclass {
-        Some(superclass) => superclass == class,
-        None => false,
-    }
-}
-
-/// Whether one of the headers names the class as its superclass.
-pub fn is_superclass(headers: &[Header], class: &ClassName) -> bool
-    ensures exact { IsTrue result ↔ Any (λ header. header.superclass ≡ Some class.now) headers.now }
-{
-    headers.iter().any(|header| has_superclass(header, class))
-}
-
-/// Whether a header lists the class among its interfaces.
-fn has_interface(header: &Header, class: &ClassName) -> bool
-    ensures exact { IsTrue result ↔ Contains header.now.interfaces class.now }
-{
-    header.interfaces.as_slice().contains(class)
-}
-
-/// Whether one of the headers lists the class among its interfaces.
-pub fn is_listed(headers: &[Header], class: &ClassName) -> bool
-    ensures exact { IsTrue result ↔ Any (λ header. Contains header.interfaces class.now) headers.now }
-{
-    headers.iter().any(|header| has_interface(header, class))
-}
 
 /// Whether the class has a header.
 pub fn is_there(headers: &Headers, class: &ClassName) -> bool

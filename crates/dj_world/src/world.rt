@@ -1,6 +1,6 @@
 //! Classes in the order in which they were added (JVMS 5.3.5).
 
-ghost use Rattle.std.specs.Prelude.{◌≡◌, ◌↔◌, ◌+◌, ◌<◌, ◌^◌, ℕ, [], OnOk, OnErr, IfErr, IsTrue, MatchOption, IsSomeAnd, length, slice_get, take};
+ghost use Rattle.std.specs.Prelude.{◌≡◌, ◌↔◌, ◌+◌, ◌<◌, ◌^◌, ℕ, [], OnOk, OnErr, IfOk, IfErr, IsTrue, MatchOption, IsSomeAnd, length, slice_get, take};
 ghost use Rattle.std.specs.Option.{option_copied, option_map};
 ghost use Rattle.dj_names.specs.Types.{view_type, view_descriptor};
 ghost use Rattle.dj_kinds.specs.Search.{FindsOne};
@@ -14,6 +14,7 @@ ghost use Rattle.dj_world.specs.Worlds.{IsAdded, IsFileAdded, IsAddFault, header
 use crate::clash::clash_of;
 use crate::fault::{AddFault, ClashKind};
 use crate::members::{header_of, members_of};
+use crate::wanted::Wanted;
 use dj_class::ClassFile;
 use dj_core::{CORE_CLASSES, CoreClass, core_class};
 use dj_headers::Headers;
@@ -27,13 +28,15 @@ use std::marker::Model;
 pub struct World {
     headers: Headers,
     members: MemberTable,
+    wanted: Wanted,
     alloc: Global,
 }
 
 impl Model for World {
     ghost use Rattle.std.specs.Coded.{codes};
     ghost use Rattle.dj_names.specs.contracts.types.JType as types;
-    ghost use Rattle.dj_world.specs.Worlds.{WorldOf, IsWorld};
+    ghost use Rattle.dj_world.specs.Worlds.{WorldOf};
+    ghost use Rattle.dj_world.specs.Wanting.{KeepsWorld};
 
     ghost Value = { WorldOf };
 
@@ -41,7 +44,7 @@ impl Model for World {
 
     ghost view = { λ w. record { headers = w.headers; members = w.members } };
 
-    ghost invariant = { λ w. IsWorld (record { headers = w.headers; members = w.members }) };
+    ghost invariant = { λ w. KeepsWorld (record { headers = w.headers; members = w.members }) w.wanted };
 }
 
 impl World {
@@ -52,6 +55,7 @@ impl World {
         World {
             headers: Headers::new(alloc),
             members: MemberTable::new(alloc),
+            wanted: Wanted::new(alloc),
             alloc,
         }
     }
@@ -103,10 +107,12 @@ impl World {
     }
 
     /// The clash of the least number that a class of this header would give.
-    fn clash(&self, header: &Header) -> Option<ClashKind>
-        ensures clash { MatchOption result (MayBeAdded self.now.headers header.now) (IsLeastClash self.now.headers header.now) }
+    fn clash(&mut self, header: &Header) -> Result<Option<ClashKind>, AllocError>
+        ensures clash { IfOk result (λ found. MatchOption found (MayBeAdded self.old.headers header.now) (IsLeastClash self.old.headers header.now)) }
+        ensures kept { self.new ≡ self.old }
     {
-        clash_of(&self.headers, header)
+        self.wanted.read_on(self.alloc, self.headers.as_slice())?;
+        Ok(clash_of(&self.headers, &self.wanted, header))
     }
 
     /// Adds a class that clashes with none.
@@ -144,7 +150,7 @@ impl World {
         ensures kept { OnErr result (self.new ≡ self.old) }
     {
         let header = header_of(self.allocator(), class)?;
-        match self.clash(&header) {
+        match self.clash(&header)? {
             Some(kind) => Err(AddFault::Clash(kind)),
             None => {
                 let members = members_of(self.allocator(), class)?;
@@ -163,7 +169,7 @@ impl World {
         ensures clash { IfErr result (IsAddFault self.old.headers header) }
         ensures kept { OnErr result (self.new ≡ self.old) }
     {
-        match self.clash(&header) {
+        match self.clash(&header)? {
             Some(kind) => Err(AddFault::Clash(kind)),
             None => {
                 self.push(header, members)?;

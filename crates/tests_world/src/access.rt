@@ -8,7 +8,11 @@ use std::test::*;
 /// Where a method stands, where it is used, through a receiver of which type, and whether it may be.
 type Row = ((u32, u32), &'static str, Option<&'static str>, bool);
 
-const METHODS: &[Row] = &[
+fn methods() -> &'static [Row] {
+    &METHODS
+}
+
+static METHODS: [Row; 14] = [
     ((2, 1), "t/B", Some("Lq/A;"), true),
     ((2, 3), "q/A", Some("Lq/A;"), true),
     ((2, 3), "q/I", Some("Lq/A;"), false),
@@ -20,14 +24,16 @@ const METHODS: &[Row] = &[
     ((2, 2), "t/B", None, true),
     ((0, 1), "q/A", Some("[I"), true),
     ((0, 1), "q/A", Some("Lq/I;"), false),
-    ((9, 0), "q/A", None, false),
+    ((2, 9), "t/B", Some("Lq/A;"), true),
+    ((0, 1), "t/J", Some("Lt/J;"), false),
+    ((10, 0), "q/A", None, false),
 ];
 
 #[test]
 fn members_may_be_used(rt: HostRuntime) -> Result<(), Fail> {
     let headers = headers(rt.alloc())?;
     let members = members(rt.alloc())?;
-    for ((class, number), from, through, wanted) in METHODS {
+    for ((class, number), from, through, wanted) in methods() {
         let member = Member {
             class: *class,
             method: true,

@@ -6,25 +6,37 @@ use dj_names::{Items, StaticType};
 use std::alloc::{AllocError, Global};
 use std::test::*;
 
-/// The type of the receiver, the name, the types of the arguments, an empty one for `null`, and the places of the method.
+/// The class where the call stands, the type of the receiver, the name, the types of the arguments, an empty one for `null`,
+/// and the places of the method.
 type Row = (
+    &'static str,
     &'static str,
     &'static str,
     &'static [&'static str],
     Option<(u32, u32)>,
 );
 
-const CALLS: &[Row] = &[
-    ("Lt/B;", "f", &["Lt/B;"], Some((2, 6))),
-    ("Lt/B;", "f", &[""], Some((2, 6))),
-    ("Lt/B;", "f", &["Ljava/lang/Object;"], Some((2, 5))),
-    ("Lt/B;", "f", &["I"], None),
-    ("Lt/B;", "f", &[], None),
-    ("Lt/B;", "b", &["I"], Some((2, 8))),
-    ("Lt/B;", "b", &["S"], Some((2, 8))),
-    ("Lt/B;", "d", &[], None),
-    ("[I", "clone", &[], Some((0, 1))),
-    ("I", "clone", &[], None),
+fn calls() -> &'static [Row] {
+    &CALLS
+}
+
+static CALLS: [Row; 16] = [
+    ("t/B", "Lt/B;", "f", &["Lt/B;"], Some((2, 6))),
+    ("t/B", "Lt/B;", "f", &[""], Some((2, 6))),
+    ("t/B", "Lt/B;", "f", &["Ljava/lang/Object;"], Some((2, 5))),
+    ("t/B", "Lt/B;", "f", &["I"], None),
+    ("t/B", "Lt/B;", "f", &[], None),
+    ("t/B", "Lt/B;", "b", &["I"], Some((2, 8))),
+    ("t/B", "Lt/B;", "b", &["S"], Some((2, 8))),
+    ("t/B", "Lt/B;", "d", &[], None),
+    ("q/A", "Lq/A;", "d", &[], Some((2, 4))),
+    ("q/A", "Lq/D;", "d", &[], None),
+    ("q/A", "Lq/A;", "r", &[], Some((2, 3))),
+    ("q/A", "Lt/B;", "r", &[], None),
+    ("q/D", "Lq/D;", "h", &["I"], Some((8, 1))),
+    ("java/lang/Object", "Lt/J;", "clone", &[], None),
+    ("t/B", "[I", "clone", &[], Some((0, 1))),
+    ("t/B", "I", "clone", &[], None),
 ];
 
 fn types_of(alloc: Global, texts: &[&str]) -> Result<Items<StaticType>, AllocError> {
@@ -43,13 +55,12 @@ fn types_of(alloc: Global, texts: &[&str]) -> Result<Items<StaticType>, AllocErr
 fn calls_mean_methods(rt: HostRuntime) -> Result<(), Fail> {
     let headers = headers(rt.alloc())?;
     let members = members(rt.alloc())?;
-    let from = class_of(rt.alloc(), "t/B")?;
-    for (receiver, name, arguments, wanted) in CALLS {
+    for (from, receiver, name, arguments, wanted) in calls() {
         let receiver = type_of(rt.alloc(), receiver)?;
         let chosen = choose(
             &headers,
             &members,
-            &from,
+            &class_of(rt.alloc(), from)?,
             &receiver,
             Some(&receiver),
             &units_of(rt.alloc(), name)?,

@@ -21,8 +21,13 @@ struct Class {
     methods: &'static [Row],
 }
 
-/// `Object`, an interface, a class that has it, one below that in another package, and what can be thrown.
-static CLASSES: [Class; 8] = [
+/// `Object`, an interface, a class that has it, one below that in another package, what can be thrown, an interface below
+/// the first, and a class of the first package below the other.
+fn classes() -> &'static [Class] {
+    &CLASSES
+}
+
+static CLASSES: [Class; 10] = [
     Class {
         name: "java/lang/Object",
         superclass: None,
@@ -58,6 +63,7 @@ static CLASSES: [Class; 8] = [
             (0x0001, "f", "(Lq/A;)V"),
             (0x1041, "b", "(I)Ljava/lang/Object;"),
             (0x0001, "b", "(I)Lq/A;"),
+            (0x000c, "ps", "()V"),
         ],
     },
     Class {
@@ -96,6 +102,22 @@ static CLASSES: [Class; 8] = [
         name: "java/lang/Error",
         superclass: Some("java/lang/Throwable"),
         interfaces: &[],
+        flags: 0x0021,
+        fields: &[],
+        methods: &[],
+    },
+    Class {
+        name: "t/J",
+        superclass: Some("java/lang/Object"),
+        interfaces: &["q/I"],
+        flags: 0x0601,
+        fields: &[],
+        methods: &[(0x0009, "h", "(I)V"), (0x0401, "h", "(I)I")],
+    },
+    Class {
+        name: "q/D",
+        superclass: Some("t/B"),
+        interfaces: &["t/J"],
         flags: 0x0021,
         fields: &[],
         methods: &[],
@@ -191,21 +213,26 @@ fn members_of(alloc: Global, class: &Class) -> Result<ClassMembers, AllocError> 
     })
 }
 
+/// Adds the header of a class that has none yet.
+pub fn push_header(headers: &mut Headers, header: Header) -> Result<(), AllocError> {
+    if headers.place(&header.name).is_none() {
+        headers.push(header)?;
+    }
+    Ok(())
+}
+
 /// The headers of the classes.
 pub fn headers(alloc: Global) -> Result<Headers, AllocError> {
     let mut headers = Headers::new(alloc);
-    for class in &CLASSES {
-        let header = header_of(alloc, class)?;
-        if headers.place(&header.name).is_none() {
-            headers.push(header)?;
-        }
+    for class in classes() {
+        push_header(&mut headers, header_of(alloc, class)?)?;
     }
     Ok(headers)
 }
 
 /// Adds the members of a class, where there are few.
-fn push_members(table: &mut MemberTable, class: ClassMembers) -> Result<(), AllocError> {
-    if table.members().classes.len() < 100
+pub fn push_members(table: &mut MemberTable, class: ClassMembers) -> Result<(), AllocError> {
+    if table.members().classes.len() < 10_000
         && class.fields.len() < 100
         && class.methods.len() < 100
     {
@@ -217,7 +244,7 @@ fn push_members(table: &mut MemberTable, class: ClassMembers) -> Result<(), Allo
 /// The members of the classes.
 pub fn members(alloc: Global) -> Result<MemberTable, AllocError> {
     let mut table = MemberTable::new(alloc);
-    for class in &CLASSES {
+    for class in classes() {
         push_members(&mut table, members_of(alloc, class)?)?;
     }
     Ok(table)

@@ -12,4 +12,6 @@ mod classes;
 #[cfg(test)]
 mod search;
 #[cfg(test)]
+mod towers;
+#[cfg(test)]
 mod worlds;

@@ -7,7 +7,11 @@ use std::test::*;
 /// A class, a name and a descriptor, and the places of the class and of the member that is found.
 type Row = (&'static str, &'static str, &'static str, Option<(u32, u32)>);
 
-const METHODS: &[Row] = &[
+fn methods() -> &'static [Row] {
+    &METHODS
+}
+
+static METHODS: [Row; 12] = [
     ("t/B", "m", "()V", Some((2, 1))),
     ("t/B", "f", "(Ljava/lang/Object;)V", Some((2, 5))),
     ("t/B", "f", "(Lt/B;)V", None),
@@ -17,10 +21,16 @@ const METHODS: &[Row] = &[
     ("q/I", "s", "()V", Some((1, 1))),
     ("t/B", "clone", "()Ljava/lang/Object;", Some((0, 1))),
     ("q/A", "b", "(I)Ljava/lang/Object;", Some((2, 7))),
+    ("t/J", "clone", "()Ljava/lang/Object;", None),
+    ("t/J", "m", "()V", Some((1, 0))),
     ("u/C", "m", "()V", None),
 ];
 
-const FIELDS: &[Row] = &[
+fn fields() -> &'static [Row] {
+    &FIELDS
+}
+
+static FIELDS: [Row; 4] = [
     ("t/B", "x", "J", Some((3, 0))),
     ("t/B", "x", "I", Some((2, 0))),
     ("t/B", "k", "I", Some((1, 0))),
@@ -31,7 +41,7 @@ const FIELDS: &[Row] = &[
 fn methods_are_found(rt: HostRuntime) -> Result<(), Fail> {
     let headers = headers(rt.alloc())?;
     let members = members(rt.alloc())?;
-    for (class, name, descriptor, wanted) in METHODS {
+    for (class, name, descriptor, wanted) in methods() {
         let found = find_method(
             &headers,
             &members,
@@ -49,7 +59,7 @@ fn methods_are_found(rt: HostRuntime) -> Result<(), Fail> {
 fn fields_are_found(rt: HostRuntime) -> Result<(), Fail> {
     let headers = headers(rt.alloc())?;
     let members = members(rt.alloc())?;
-    for (class, name, descriptor, wanted) in FIELDS {
+    for (class, name, descriptor, wanted) in fields() {
         let found = find_field(
             &headers,
             &members,
@@ -64,7 +74,11 @@ fn fields_are_found(rt: HostRuntime) -> Result<(), Fail> {
 }
 
 /// Two classes, and whether the first is a subclass of the second, and has it above it.
-const ABOVE: &[(&str, &str, bool, bool)] = &[
+fn above() -> &'static [(&'static str, &'static str, bool, bool)] {
+    &ABOVE
+}
+
+static ABOVE: [(&'static str, &'static str, bool, bool); 4] = [
     ("t/B", "t/B", true, true),
     ("t/B", "q/A", true, true),
     ("t/B", "q/I", false, true),
@@ -75,7 +89,7 @@ const ABOVE: &[(&str, &str, bool, bool)] = &[
 fn classes_stand_above_others(rt: HostRuntime) -> Result<(), Fail> {
     let headers = headers(rt.alloc())?;
     let kinds = Kinds::new(rt.alloc(), &headers)?;
-    for (lower, upper, subclass, above) in ABOVE {
+    for (lower, upper, subclass, above) in above() {
         let lower = class_of(rt.alloc(), lower)?;
         let upper = class_of(rt.alloc(), upper)?;
         assert!(rt; kinds.subclass(&lower, &upper) == *subclass);
@@ -85,7 +99,11 @@ fn classes_stand_above_others(rt: HostRuntime) -> Result<(), Fail> {
 }
 
 /// A class, and whether a method that throws it must declare it.
-const CHECKED: &[(&str, bool)] = &[
+fn checked() -> &'static [(&'static str, bool)] {
+    &CHECKED
+}
+
+static CHECKED: [(&'static str, bool); 5] = [
     ("java/lang/Throwable", true),
     ("java/lang/Exception", true),
     ("java/lang/RuntimeException", false),
@@ -97,7 +115,7 @@ const CHECKED: &[(&str, bool)] = &[
 fn exceptions_are_checked(rt: HostRuntime) -> Result<(), Fail> {
     let headers = headers(rt.alloc())?;
     let kinds = Kinds::new(rt.alloc(), &headers)?;
-    for (class, checked) in CHECKED {
+    for (class, checked) in checked() {
         assert!(rt;
             kinds.checked(&class_of(rt.alloc(), class)?) == *checked,
             "{class}"

@@ -1,7 +1,10 @@
-//! Answers each line: one of hexadecimal bytes with what became of them in a world: `added`, the clash, `broken`, or `many` where there are too many classes or members; and the line `fill` with how many classes the world has once the core classes are filled in.
+//! Answers each line: one of hexadecimal bytes with what became of them in a world: `added`, the clash, `broken`, or `many` where there are too many classes or members; the line `fill` with how many classes the world has once the core classes are filled in; and a question of several words.
 //! It stands on the reader of class files and the world, and reads and prints.
 //! No layer stands above it: its stored run is a world of small classes.
 #![tactic(auto)]
+
+mod questions;
+mod types;
 
 use anyhow::Result;
 use dj_class::read_class;
@@ -45,9 +48,16 @@ fn fill(alloc: Global, world: &mut World) -> Result<String> {
 
 fn answer(alloc: Global, world: &mut World, line: &str) -> Result<String> {
     if line == "fill" {
-        fill(alloc, world)
-    } else {
+        return fill(alloc, world);
+    }
+    let mut words = Vec::new(alloc);
+    for word in line.split(' ') {
+        words.push(word)?;
+    }
+    if words.len() == 1 {
         add(alloc, world, line)
+    } else {
+        questions::answer(alloc, world, words.as_slice())
     }
 }
 

@@ -15,7 +15,7 @@ returns-then-is_constructor-clause-found g c =
 
 pub returns-then-is_constructor-clause-one : goal.returns-then-is_constructor-clause-one
 returns-then-is_constructor-clause-one g c =
-    one_found c.args.headers.now c.args.members.now (g.P.MethodPicker.picks c.args.picker.now) c.args.class.now c.as_slice.ensures.distinct (g.met.P.MethodPicker.one c.args.picker.now)
+    one_found c.args.headers.now c.args.members.now (g.P.MethodPicker.picks c.args.picker.now) c.args.class.now c.as_slice.ensures.distinct (g.met.P.MethodPicker.one c.args.picker.now c.args.headers.now c.args.class.now)
     (method_order c.args.headers.now c.args.name.now c.args.class.now)
 
 pub returns-else-is_constructor-clause-found : goal.returns-else-is_constructor-clause-found
@@ -28,5 +28,5 @@ returns-else-is_constructor-clause-found g c =
 
 pub returns-else-is_constructor-clause-one : goal.returns-else-is_constructor-clause-one
 returns-else-is_constructor-clause-one g c =
-    one_found c.args.headers.now c.args.members.now (g.P.MethodPicker.picks c.args.picker.now) c.args.class.now c.as_slice.ensures.distinct (g.met.P.MethodPicker.one c.args.picker.now)
+    one_found c.args.headers.now c.args.members.now (g.P.MethodPicker.picks c.args.picker.now) c.args.class.now c.as_slice.ensures.distinct (g.met.P.MethodPicker.one c.args.picker.now c.args.headers.now c.args.class.now)
     (method_order c.args.headers.now c.args.name.now c.args.class.now)

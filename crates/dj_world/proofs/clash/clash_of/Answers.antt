@@ -3,11 +3,12 @@ use Rattle.dj_world.proofs.ClashLemmas.{least_twice, least_cycle, least_final, l
 use Rattle.dj_world.proofs.clash.clash_of.Goals as goal
 
 pub has_final_super-requires : goal.has_final_super-requires
-has_final_super-requires c = record { lawful = c.requires.lawful; no_circle = λ wrong. both_ways c.closes_circle.result c.if-closes_circle.false (c.closes_circle.ensures.exact.1 wrong) }
+has_final_super-requires c = record { lawful = c.requires.lawful; wanted = c.requires.wanted; no_circle = λ wrong. both_ways c.closes_circle.result c.if-closes_circle.false (c.closes_circle.ensures.exact.1 wrong) }
 
 pub has_wrong_kind-requires : goal.has_wrong_kind-requires
 has_wrong_kind-requires c = record {
   lawful = c.requires.lawful;
+  wanted = c.requires.wanted;
   fresh = λ there. both_ways c.is_there.result c.if-is_there.false (c.is_there.ensures.exact.1 there);
   no_circle = λ wrong. both_ways c.closes_circle.result c.if-closes_circle.false (c.closes_circle.ensures.exact.1 wrong);
 }

@@ -11,7 +11,7 @@ pub returns-else-is_below_final : goal.returns-else-is_below_final
 returns-else-is_below_final c =
     let headers = c.args.headers.now in
     let header = c.args.header.now in
-    let above : IsTrue c.is_final_above.result ↔ (IsBitSet header.flags 4 × Any (λ other. other.superclass ≡ Some header.name) headers) = rw c.as_slice.ensures.headers at c.is_final_above.ensures.exact in
+    let above : IsTrue c.is_final_above.result ↔ (IsBitSet header.flags 4 × Any (λ other. other.superclass ≡ Some header.name) headers) = c.is_final_above.ensures.exact headers c.requires.wanted in
     record {
       exact = (
         λ yes. let both = above.0 yes in final_by_lower headers header both.0 both.1,
