@@ -2,7 +2,7 @@
 
 ghost use Rattle.std.specs.Prelude.{◌≡◌, ◌<◌, ◌≤◌, ◌^◌, ◌+◌, ◌++◌, ◌∷◌, [], ℕ, length, take, slice_get, slice_set, IfOk, OnOk, OnErr, IsTrue, ◌↔◌};
 ghost use Rattle.std.specs.Option.{option_copied};
-ghost use Rattle.dj_frames.specs.SlotTree.{tag_in};
+ghost use Rattle.dj_frames.specs.SlotTree.{over, tag_in};
 
 use crate::tag::Tag;
 use crate::tree::{LEAF_DEPTH, Tree, deeper, get, leaf, put, share};
@@ -64,6 +64,20 @@ fn with_room(
         grown = deeper(alloc, &grown)?;
     }
     Err(AllocError)
+}
+
+/// Whether these tags stand in the slots from one on.
+fn stand(tree: &Tree, depth: u32, start: usize, tags: &[Tag]) -> bool
+    requires small { depth ≤ 64 }
+    requires few { start + length tags.now < 2 ^ 64 }
+    ensures stand { (slot : ℕ) → IsTrue result → tag_in depth tree.now slot ≡ over start tags.now (tag_in depth tree.now) slot }
+{
+    for place in 0..tags.len() {
+        if !get(tree, depth, start + place).is_surely(&tags[place]) {
+            return false;
+        }
+    }
+    true
 }
 
 /// Tags equal to these.
@@ -155,12 +169,16 @@ impl Slots {
     }
 
     /// Puts tags behind the others; an error says that memory is wanting, or that there would be more
-    /// than 2^63 tags.
+    /// than 2^63 tags. Those that stood there before a cut take no room.
     pub fn append(&mut self, alloc: Global, tags: &[Tag]) -> Result<(), AllocError>
         ensures ok { OnOk result (self.new ≡ self.old ++ tags.now) }
         ensures err { OnErr result (self.new ≡ self.old) }
     {
         let count = self.count.checked_add(tags.len()).ok_or(AllocError)?;
+        if has_room(self.depth, count) && stand(&self.tree, self.depth, self.count, tags) {
+            self.count = count;
+            return Ok(());
+        }
         let (depth, tree) = with_room(alloc, &self.tree, self.depth, count)?;
         let tree = put(alloc, &tree, depth, self.count, tags)?;
         self.depth = depth;
