@@ -103,6 +103,15 @@ fn one(alloc: Global, tag: &Tag) -> Result<Slots, AllocError>
     })
 }
 
+/// Tags, put into a tree at once.
+fn many(alloc: Global, tags: &[Tag]) -> Result<Slots, AllocError>
+    ensures same { IfOk result (λ slots. slots ≡ tags.now) }
+{
+    let mut slots = Slots::new();
+    slots.append(alloc, tags)?;
+    Ok(slots)
+}
+
 impl Slots {
     /// No tags.
     pub fn new() -> Slots
@@ -133,9 +142,7 @@ impl Slots {
                 tree: leaf(alloc, tags)?,
             });
         }
-        let mut slots = Slots::new();
-        slots.append(alloc, tags.as_slice())?;
-        Ok(slots)
+        many(alloc, tags.as_slice())
     }
 
     /// The tags of a slice.
@@ -144,6 +151,9 @@ impl Slots {
     {
         if let [tag] = tags {
             return one(alloc, tag);
+        }
+        if tags.len() > 1 << LEAF_DEPTH {
+            return many(alloc, tags);
         }
         let tags = copy_tags(alloc, tags)?;
         let slots = Slots::from_items(alloc, tags)?;
