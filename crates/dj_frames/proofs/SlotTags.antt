@@ -134,6 +134,29 @@ first_appended count tags before grown after same put =
         over_below count s tags grown lt ∙ same s lt ∙ sym (get_or_append_left (first_tags count before) tags Top s (omega arith) ∙ get_first count s before lt)
     there s within (inr le) = over_above count s tags grown le ∙ get_or_default tags (s - count) (grown s) Top (omega arith) ∙ sym (get_or-append_right (first_tags count before) tags count s Top (length_first count before) le)
 
+-- tags that stand in the slots already
+pub stand_over : (start slot : ℕ) (tags : List Tag) (at : ℕ → Tag) → ((s : ℕ) → s < length tags → at (start + s) ≡ get_or tags s Top) → at slot ≡ over start tags at slot
+stand_over start slot tags at same = elim (cases_lt slot start) [
+  | inl lt ↦ sym (over_below start slot tags at lt)
+  | inr le ↦ above le (cases_lt (slot - start) (length tags))
+]
+  where
+    above : start ≤ slot → (slot - start < length tags) ⊎ (length tags ≤ slot - start) → at slot ≡ over start tags at slot
+    above le (inl within) =
+        let place : start + (slot - start) ≡ slot = omega arith in
+        sym (over_above start slot tags at le ∙ get_or_default tags (slot - start) (at slot) Top within ∙ sym (same (slot - start) within) ∙ ap at place)
+    above le (inr past) = sym (over_behind start slot tags at (omega arith))
+
+-- one more of the tags stands in its slot
+pub stand_more : (start place : ℕ) (tags : List Tag) (at : ℕ → Tag) (found tag : Tag) → ((s : ℕ) → s < place → at (start + s) ≡ get_or tags s Top) → place < length tags → found ≡ at (start + place) → found ≡ tag → tag ≡ get_or tags place tag
+    → (s : ℕ) → s < place + 1 → at (start + s) ≡ get_or tags s Top
+stand_more start place tags at found tag before within found_is same tag_is s lt = elim (cases_lt s place) [
+  | inl less ↦ before s less
+  | inr le ↦
+      let e : s ≡ place = omega arith in
+      ap (λ (n : ℕ). at (start + n)) e ∙ sym found_is ∙ same ∙ tag_is ∙ get_or_default tags place tag Top within ∙ ap (λ (n : ℕ). get_or tags n Top) (sym e)
+]
+
 -- a tag put into one of the first slots
 pub first_set : (count slot : ℕ) (tag : Tag) (before after : ℕ → Tag) → slot < count → ((s : ℕ) → s < count → after s ≡ over slot (tag ∷ []) before s) → first_tags count after ≡ set (first_tags count before) slot tag
 first_set count slot tag before after within put =

@@ -29,10 +29,10 @@ use Rattle.dj_frames.proofs.Turns.{same_length}
 -- ---- the locals of a frame
 
 -- fewer values, as plain data
-pub chopped_tags : (locals : List declared.Tag) (n : ℕ) (found : Option (List declared.Tag)) → MatchOption found (length locals < n) (λ now. now ≡ take (length locals - n) locals)
-    → MatchOption found (n ≤ length locals → ⊥) (λ now. view_tags now ≡ take (length (view_tags locals) - n) (view_tags locals))
-chopped_tags locals n None fewer = λ le. omega arith
-chopped_tags locals n (Some now) is = ap view_tags is ∙ sym (take-map view_tag (length locals - n) locals) ∙ ap (λ (k : ℕ). take (k - n) (view_tags locals)) (sym (length-map locals view_tag))
+pub chopped_tags : {A : Type 0} (locals now : List declared.Tag) (n : ℕ) (found : Option A) → MatchOption found (length locals < n) (λ _. now ≡ take (length locals - n) locals)
+    → MatchOption found (n ≤ length locals → ⊥) (λ _. view_tags now ≡ take (length (view_tags locals) - n) (view_tags locals))
+chopped_tags locals now n None fewer = λ le. omega arith
+chopped_tags locals now n (Some done) is = ap view_tags is ∙ sym (take-map view_tag (length locals - n) locals) ∙ ap (λ (k : ℕ). take (k - n) (view_tags locals)) (sym (length-map locals view_tag))
 
 length_changed : (how : Change) (before written : List Tag) → length (changed how before written) ≡ count_changed how (length before) (length written)
 length_changed change.Keeps before written = refl

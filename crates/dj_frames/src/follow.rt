@@ -15,6 +15,7 @@ use crate::written::Written;
 use dj_instructions::Instruction;
 use dj_names::Items;
 use std::alloc::{AllocError, Global};
+use std::mem;
 
 /// The frames so far by their pcs, the locals of the last one, where a frame with delta 0 is behind
 /// it, and the place of the first instruction that isn't before that.
@@ -26,63 +27,56 @@ pub struct Listed {
     pub near: usize,
 }
 
-/// The locals of a frame, by those of the frame before and those that are written; None where fewer
-/// are there than are chopped.
-fn changed(
+/// Makes the locals of the frame before those of a frame, by the values that are written; None where
+/// fewer are there than are chopped.
+fn change_locals(
     alloc: Global,
-    locals: Locals,
+    locals: &mut Locals,
     change: Change,
     written: Items<Tag>,
-) -> Result<Option<Locals>, AllocError>
-    ensures changed { IfOk result (λ found. MatchOption found (¬ (chopped change ≤ length locals)) (λ now. view_tags now ≡ changed change (view_tags locals) (view_tags written))) }
-    ensures enough { IfOk result (λ found. MatchOption found (¬ (chopped change ≤ length locals)) (λ now. chopped change ≤ length locals)) }
+) -> Result<Option<()>, AllocError>
+    ensures changed { IfOk result (λ found. MatchOption found (¬ (chopped change ≤ length locals.old)) (λ _. view_tags locals.new ≡ changed change (view_tags locals.old) (view_tags written))) }
+    ensures enough { IfOk result (λ found. MatchOption found (¬ (chopped change ≤ length locals.old)) (λ _. chopped change ≤ length locals.old)) }
 {
     match change {
-        Change::Keeps => Ok(Some(locals)),
-        Change::Chops(count) => Ok(locals.without(count)),
+        Change::Keeps => Ok(Some(())),
+        Change::Chops(count) => Ok(locals.chop(count)),
         Change::Appends => {
-            let locals = locals.with_all(alloc, written)?;
-            Ok(Some(locals))
+            let before = mem::replace(locals, Locals::none(alloc));
+            *locals = before.with_all(alloc, written)?;
+            Ok(Some(()))
         }
         Change::Replaces => {
-            let locals = Locals::from_values(alloc, written)?;
-            Ok(Some(locals))
+            *locals = Locals::from_values(alloc, written)?;
+            Ok(Some(()))
         }
     }
 }
 
-/// The frames with a written one behind them; None where it stands at no instruction, or chops more
+/// Puts a written frame behind the others; None where it stands at no instruction, or chops more
 /// values than there are.
 pub fn follow(
     alloc: Global,
     instructions: &[(u32, Instruction)],
-    listed: Listed,
+    listed: &mut Listed,
     written: Written,
-) -> Result<Option<Listed>, AllocError>
+) -> Result<Option<()>, AllocError>
     requires rising { IsRising (view_instructions instructions.now) }
-    requires low { listed.least ≤ 2 ^ 32 }
-    ensures behind { IfOk result (λ found. MatchOption found (¬ CanFollow (view_instructions instructions.now) listed written) (λ now. IsBehind listed written now)) }
-    ensures can { IfOk result (λ found. MatchOption found (¬ CanFollow (view_instructions instructions.now) listed written) (λ now. CanFollow (view_instructions instructions.now) listed written)) }
+    requires low { listed.old.least ≤ 2 ^ 32 }
+    ensures behind { IfOk result (λ found. MatchOption found (¬ CanFollow (view_instructions instructions.now) listed.old written) (λ _. IsBehind listed.old written listed.new)) }
+    ensures can { IfOk result (λ found. MatchOption found (¬ CanFollow (view_instructions instructions.now) listed.old written) (λ _. CanFollow (view_instructions instructions.now) listed.old written)) }
 {
-    let Listed {
-        mut frames,
-        locals,
-        least,
-        near,
-    } = listed;
-    let Some((place, pc)) = start_at(instructions, near, least + u64::from(written.delta)) else {
+    let at = listed.least + u64::from(written.delta);
+    let Some((place, pc)) = start_at(instructions, listed.near, at) else {
         return Ok(None);
     };
-    let change = form_of(written.kind).change;
-    let Some(locals) = changed(alloc, locals, change, written.locals)? else {
+    let how = form_of(written.kind).change;
+    let Some(()) = change_locals(alloc, &mut listed.locals, how, written.locals)? else {
         return Ok(None);
     };
-    let frame = locals.frame(alloc, written.stack)?;
-    frames.push((pc, frame))?;
-    Ok(Some(Listed {
-        frames,
-        locals,
-        least: u64::from(pc) + 1,
-        near: place + 1,
-    }))
+    let frame = listed.locals.frame(alloc, written.stack)?;
+    listed.frames.push((pc, frame))?;
+    listed.least = u64::from(pc) + 1;
+    listed.near = place + 1;
+    Ok(Some(()))
 }

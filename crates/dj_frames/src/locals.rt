@@ -53,7 +53,8 @@ fn push_value(alloc: Global, slots: &mut Items<Tag>, value: &Tag) -> Result<(), 
 fn spread(alloc: Global, values: &[Tag]) -> Result<Items<Tag>, AllocError>
     ensures spread { IfOk result (λ slots. view_tags slots ≡ flat_map slots_of (view_tags values.now)) }
 {
-    let mut slots = Items::new(alloc);
+    let room = values.len().saturating_mul(2);
+    let mut slots = Items::from_vec(Vec::with_capacity(alloc, room)?);
     for value in values {
         push_value(alloc, &mut slots, value)?;
     }
@@ -138,6 +139,17 @@ impl Locals {
         })
     }
 
+    /// No values.
+    pub fn none(alloc: Global) -> Locals
+        ensures none { result ≡ [] }
+    {
+        Locals {
+            values: Items::new(alloc),
+            slots: Slots::new(),
+            unborn: None,
+        }
+    }
+
     /// The locals with these values behind them.
     pub fn with_all(self, alloc: Global, more: Items<Tag>) -> Result<Locals, AllocError>
         ensures more { IfOk result (λ now. now ≡ self ++ more) }
@@ -158,36 +170,26 @@ impl Locals {
         })
     }
 
-    /// The locals without their last value, None where there is none.
-    pub fn without_last(self) -> Option<Locals>
-        ensures fewer { MatchOption result (self ≡ []) (λ now. IsFront now self) }
+    /// Takes the last value away; None where there is none.
+    fn chop_last(&mut self) -> Option<()>
+        ensures fewer { MatchOption result (self.old ≡ []) (λ _. IsFront self.new self.old) }
     {
-        let Locals {
-            mut values,
-            mut slots,
-            unborn,
-        } = self;
-        let last = values.pop()?;
-        let left = slots.len() - last.words();
-        slots.truncate(left);
-        let unborn = unborn_before(unborn, values.len());
-        Some(Locals {
-            values,
-            slots,
-            unborn,
-        })
+        let last = self.values.pop()?;
+        let left = self.slots.len() - last.words();
+        self.slots.truncate(left);
+        self.unborn = unborn_before(self.unborn, self.values.len());
+        Some(())
     }
 
-    /// The locals without so many last values, None where there are fewer.
-    pub fn without(self, count: u8) -> Option<Locals>
-        ensures fewer { MatchOption result (length self < count) (λ now. now ≡ take (length self - count) self) }
-        ensures enough { MatchOption result (length self < count) (λ now. count ≤ length self) }
+    /// Takes so many last values away; None where there are fewer.
+    pub fn chop(&mut self, count: u8) -> Option<()>
+        ensures fewer { MatchOption result (length self.old < count) (λ _. self.new ≡ take (length self.old - count) self.old) }
+        ensures enough { MatchOption result (length self.old < count) (λ _. count ≤ length self.old) }
     {
-        let mut locals = self;
         for _ in 0..count {
-            locals = locals.without_last()?;
+            self.chop_last()?;
         }
-        Some(locals)
+        Some(())
     }
 
     /// The frame with these locals and this stack.

@@ -2,7 +2,7 @@
 
 ghost use Rattle.std.specs.Prelude.{◌≡◌, ◌<◌, ◌≤◌, ◌^◌, ◌+◌, ◌++◌, ◌∷◌, [], ℕ, length, take, slice_get, slice_set, IfOk, OnOk, OnErr, IsTrue, ◌↔◌};
 ghost use Rattle.std.specs.Option.{option_copied};
-ghost use Rattle.dj_frames.specs.SlotTree.{tag_in};
+ghost use Rattle.dj_frames.specs.SlotTree.{over, tag_in};
 
 use crate::tag::Tag;
 use crate::tree::{LEAF_DEPTH, Tree, deeper, get, leaf, put, share};
@@ -66,6 +66,20 @@ fn with_room(
     Err(AllocError)
 }
 
+/// Whether these tags stand in the slots from one on.
+fn stand(tree: &Tree, depth: u32, start: usize, tags: &[Tag]) -> bool
+    requires small { depth ≤ 64 }
+    requires few { start + length tags.now < 2 ^ 64 }
+    ensures stand { (slot : ℕ) → IsTrue result → tag_in depth tree.now slot ≡ over start tags.now (tag_in depth tree.now) slot }
+{
+    for place in 0..tags.len() {
+        if !get(tree, depth, start + place).is_surely(&tags[place]) {
+            return false;
+        }
+    }
+    true
+}
+
 /// Tags equal to these.
 fn copy_tags(alloc: Global, tags: &[Tag]) -> Result<Items<Tag>, AllocError>
     ensures equal { IfOk result (λ copy. copy ≡ tags.now) }
@@ -87,6 +101,15 @@ fn one(alloc: Global, tag: &Tag) -> Result<Slots, AllocError>
         count: 1,
         tree: Tree::All(tag),
     })
+}
+
+/// Tags, put into a tree at once.
+fn many(alloc: Global, tags: &[Tag]) -> Result<Slots, AllocError>
+    ensures same { IfOk result (λ slots. slots ≡ tags.now) }
+{
+    let mut slots = Slots::new();
+    slots.append(alloc, tags)?;
+    Ok(slots)
 }
 
 impl Slots {
@@ -119,9 +142,7 @@ impl Slots {
                 tree: leaf(alloc, tags)?,
             });
         }
-        let mut slots = Slots::new();
-        slots.append(alloc, tags.as_slice())?;
-        Ok(slots)
+        many(alloc, tags.as_slice())
     }
 
     /// The tags of a slice.
@@ -130,6 +151,9 @@ impl Slots {
     {
         if let [tag] = tags {
             return one(alloc, tag);
+        }
+        if tags.len() > 1 << LEAF_DEPTH {
+            return many(alloc, tags);
         }
         let tags = copy_tags(alloc, tags)?;
         let slots = Slots::from_items(alloc, tags)?;
@@ -155,12 +179,16 @@ impl Slots {
     }
 
     /// Puts tags behind the others; an error says that memory is wanting, or that there would be more
-    /// than 2^63 tags.
+    /// than 2^63 tags. Those that stood there before a cut take no room.
     pub fn append(&mut self, alloc: Global, tags: &[Tag]) -> Result<(), AllocError>
         ensures ok { OnOk result (self.new ≡ self.old ++ tags.now) }
         ensures err { OnErr result (self.new ≡ self.old) }
     {
         let count = self.count.checked_add(tags.len()).ok_or(AllocError)?;
+        if has_room(self.depth, count) && stand(&self.tree, self.depth, self.count, tags) {
+            self.count = count;
+            return Ok(());
+        }
         let (depth, tree) = with_room(alloc, &self.tree, self.depth, count)?;
         let tree = put(alloc, &tree, depth, self.count, tags)?;
         self.depth = depth;

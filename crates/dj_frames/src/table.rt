@@ -30,42 +30,42 @@ pub fn fault_behind(least: u64) -> Stop<BadKind>
     })
 }
 
-/// A frame behind others, its fault where it begins.
+/// Puts a frame behind others, its fault where it begins.
 fn next_at<'a>(
     alloc: Global,
     pool: &Pool,
     instructions: &[(u32, Instruction)],
-    listed: Listed,
+    listed: &mut Listed,
     bytes: &'a [u8],
     end: usize,
-) -> Result<(Listed, &'a [u8]), Stop<BadKind>>
+) -> Result<&'a [u8], Stop<BadKind>>
     requires rising { IsRising (view_instructions instructions.now) }
-    requires low { listed.least ≤ 2 ^ 32 }
-    ensures reads { (values : List Tag) (before : List RawFrame) → IsListedTo pool.now (view_instructions instructions.now) values before listed → ReadsAs (asked (frame_with (tag pool.now (view_instructions instructions.now))) (Follows (view_instructions instructions.now) (length values) before) kind.Frame) (λ raw now. IsListedTo pool.now (view_instructions instructions.now) values (before ++ raw ∷ []) now) (λ x. (x.0, x.1.now)) end bytes.now result }
+    requires low { listed.old.least ≤ 2 ^ 32 }
+    ensures reads { (values : List Tag) (before : List RawFrame) → IsListedTo pool.now (view_instructions instructions.now) values before listed.old → ReadsAs (asked (frame_with (tag pool.now (view_instructions instructions.now))) (Follows (view_instructions instructions.now) (length values) before) kind.Frame) (λ raw now. IsListedTo pool.now (view_instructions instructions.now) values (before ++ raw ∷ []) now) (λ rest. (listed.new, rest.now)) end bytes.now result }
 {
     let (written, rest) = written_at(alloc, pool, instructions, bytes, end)?;
     match follow(alloc, instructions, listed, written)? {
-        Some(now) => Ok((now, rest)),
+        Some(()) => Ok(rest),
         None => Err(Stop::Fault(fault_at(bytes, end, BadKind::Frame))),
     }
 }
 
-/// A frame behind others, its fault at the last of them.
+/// Puts a frame behind others, its fault at the last of them.
 fn frame_at<'a>(
     alloc: Global,
     pool: &Pool,
     instructions: &[(u32, Instruction)],
-    listed: Listed,
+    listed: &mut Listed,
     bytes: &'a [u8],
     end: usize,
-) -> Result<(Listed, &'a [u8]), Stop<BadKind>>
+) -> Result<&'a [u8], Stop<BadKind>>
     requires rising { IsRising (view_instructions instructions.now) }
-    requires low { listed.least ≤ 2 ^ 32 }
-    ensures reads { (values : List Tag) (before : List RawFrame) → IsListedTo pool.now (view_instructions instructions.now) values before listed → ReadsAs (frame_behind pool.now (view_instructions instructions.now) (length values) before) (λ raw now. IsListedTo pool.now (view_instructions instructions.now) values (before ++ raw ∷ []) now) (λ x. (x.0, x.1.now)) end bytes.now result }
+    requires low { listed.old.least ≤ 2 ^ 32 }
+    ensures reads { (values : List Tag) (before : List RawFrame) → IsListedTo pool.now (view_instructions instructions.now) values before listed.old → ReadsAs (frame_behind pool.now (view_instructions instructions.now) (length values) before) (λ raw now. IsListedTo pool.now (view_instructions instructions.now) values (before ++ raw ∷ []) now) (λ rest. (listed.new, rest.now)) end bytes.now result }
 {
     let least = listed.least;
     match next_at(alloc, pool, instructions, listed, bytes, end) {
-        Ok((now, rest)) => Ok((now, rest)),
+        Ok(rest) => Ok(rest),
         Err(Stop::Fault(_)) => Err(fault_behind(least)),
         Err(Stop::Memory) => Err(Stop::Memory),
     }
@@ -84,16 +84,16 @@ fn frame_list<'a>(
     requires rising { IsRising (view_instructions instructions.now) }
     ensures reads { ReadsAs (sequence spell_frame (λ xs. length xs == count) (frame_behind pool.now (view_instructions instructions.now) (length (view_tags entry)))) (IsListedTo pool.now (view_instructions instructions.now) (view_tags entry)) (λ x. (x.0, x.1.now)) end bytes.now result }
 {
+    let room = bytes.len().min(usize::from(count));
     let mut listed = Listed {
-        frames: Items::new(alloc),
+        frames: Items::from_vec(Vec::with_capacity(alloc, room)?),
         locals: entry,
         least: 0,
         near: 0,
     };
     let mut rest = bytes;
     for _ in 0..count {
-        let (now, after) = frame_at(alloc, pool, instructions, listed, rest, end)?;
-        listed = now;
+        let after = frame_at(alloc, pool, instructions, &mut listed, rest, end)?;
         rest = after;
     }
     Ok((listed, rest))

@@ -1,6 +1,6 @@
 //! What a local or an entry of the operand stack holds (JVMS 4.7.4, 4.10.1.2).
 
-ghost use Rattle.std.specs.Prelude.{◌≡◌, IfOk, length};
+ghost use Rattle.std.specs.Prelude.{◌≡◌, IfOk, IsTrue, length};
 ghost use Rattle.dj_names.specs.Types.{view_type};
 ghost use Rattle.dj_frames.specs.Frames.{view_tag, slots_of, is_unborn_this, tag_of};
 
@@ -50,6 +50,26 @@ impl Tag {
             JType::Float => Ok(Tag::Float),
             JType::Double => Ok(Tag::Double),
             JType::Class(_) | JType::Array(_) => Ok(Tag::Object(kind.copy(alloc)?)),
+        }
+    }
+
+    /// Whether the other is equal to this one, as far as that is told: of types only classes are compared.
+    pub fn is_surely(&self, other: &Tag) -> bool
+        ensures equal { IsTrue result → self.now ≡ other.now }
+    {
+        match self {
+            Tag::Top => matches!(other, Tag::Top),
+            Tag::Int => matches!(other, Tag::Int),
+            Tag::Float => matches!(other, Tag::Float),
+            Tag::Double => matches!(other, Tag::Double),
+            Tag::Long => matches!(other, Tag::Long),
+            Tag::Null => matches!(other, Tag::Null),
+            Tag::UnbornThis => matches!(other, Tag::UnbornThis),
+            Tag::Object(JType::Class(name)) => {
+                matches!(other, Tag::Object(JType::Class(same)) if name == same)
+            }
+            Tag::Object(_) => false,
+            Tag::Unborn(pc) => matches!(other, Tag::Unborn(same) if pc == same),
         }
     }
 

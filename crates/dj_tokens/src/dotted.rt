@@ -6,8 +6,9 @@ ghost use Rattle.dj_syntax.specs.Trees.{view_exp};
 ghost use Rattle.dj_tokens.specs.Dotted.{begun, extended, field_of_value, joined_to, prefix_units, primitive_of, type_of_name, value_of, variable_in, whole};
 ghost use Rattle.dj_tokens.specs.DottedViews.{view_name};
 
+use crate::kept::KnownNames;
 use crate::literals::{is_variable_word, number_behind_letter, variable_of};
-use crate::names::{SLASH, units_of};
+use crate::names::SLASH;
 use crate::words::is_word;
 use dj_names::{Boxed, ClassName, JType, Units};
 use dj_syntax::Exp;
@@ -36,10 +37,14 @@ pub struct DottedName {
 
 impl DottedName {
     /// A name of one word.
-    pub fn begun(alloc: Global, word: &[u8]) -> Result<DottedName, AllocError>
+    pub fn begun(
+        alloc: Global,
+        names: &mut KnownNames,
+        word: &[u8],
+    ) -> Result<DottedName, AllocError>
         ensures begun { IfOk result (λ name. view_name name ≡ begun word.now) }
     {
-        let last = units_of(alloc, word)?;
+        let last = names.word(alloc, word)?;
         Ok(DottedName {
             value: variable_in(word),
             primitive: primitive_of(word),
@@ -52,7 +57,12 @@ impl DottedName {
     }
 
     /// The name with a word more.
-    pub fn extended(self, alloc: Global, word: &[u8]) -> Result<DottedName, AllocError>
+    pub fn extended(
+        self,
+        alloc: Global,
+        names: &mut KnownNames,
+        word: &[u8],
+    ) -> Result<DottedName, AllocError>
         ensures extended { IfOk result (λ name. view_name name ≡ extended (view_name self) word.now) }
     {
         let DottedName {
@@ -64,7 +74,7 @@ impl DottedName {
             ..
         } = self;
         let prefix = joined_to(alloc, prefix, &last)?;
-        let last = units_of(alloc, word)?;
+        let last = names.word(alloc, word)?;
         let value = field_of_value(alloc, value, word, &last)?;
         Ok(DottedName {
             value,

@@ -4,12 +4,14 @@
 #![tactic(auto)]
 
 mod dotted;
+mod kept;
 mod literals;
 mod names;
 mod tokens;
 mod words;
 
 pub use dotted::DottedName;
+pub use kept::KnownNames;
 pub use literals::{literal_of, negated_int, negated_long, unquoted, variable_of};
 pub use names::{SLASH, read_name, read_names, read_parameters, read_result, read_type, units_of};
 pub use tokens::{Token, token_of};

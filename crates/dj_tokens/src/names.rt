@@ -16,7 +16,7 @@ pub const SLASH: u16 = b'/' as u16;
 pub fn units_of(alloc: Global, word: &[u8]) -> Result<Units, AllocError>
     ensures units { IfOk result (λ units. units ≡ word.now) }
 {
-    let mut units = Vec::new(alloc);
+    let mut units = Vec::with_capacity(alloc, word.len())?;
     add_word(&mut units, word)?;
     Units::from_vec(units)
 }

@@ -50,9 +50,10 @@ impl<'a> Reader<'a> {
         ensures first { result.now ≡ first_word self.old }
         ensures rest { self.new ≡ other_words self.old }
     {
-        let word = self.first();
-        self.advance();
-        word
+        let text = past_blanks(self.text);
+        let end = word_end(text);
+        self.text = &text[end..];
+        &text[..end]
     }
 
     /// Goes on behind so many words.

@@ -8,19 +8,19 @@ use Rattle.dj_frames.proofs.FrameReading.{spelled_alike}
 use Rattle.dj_frames.proofs.Turns.{turn_more, turn_stop}
 use Rattle.dj_frames.proofs.table.frame_list.Goals as goal
 
-pub returns-in_err-now : goal.returns-in_err-now
-returns-in_err-now c =
+pub returns-in_err-after : goal.returns-in_err-after
+returns-in_err-after c =
     let i = view_instructions c.args.instructions.now in
     let values = view_tags c.args.entry in
-    let p = err_from_is_err_and c.from_residual.result c.from_residual.ensures.1 in
+    let p = err_from_is_err_and c.from_residual-in_err-after.result c.from_residual-in_err-after.ensures.1 in
     rw (p.1, p.2) record {
-      reads = turn_stop spell_frame (frame_behind c.args.pool.now i (length values)) (IsListedTo c.args.pool.now i values) c.args.count c.loop.counter c.args.end c.args.bytes.now c.loop.rest.now c.loop.listed c.in_err-now.field-0.0
-          c.loop.invariant c.loop-test.true (c.in_err-now.ensures.reads values c.loop.invariant.items c.loop.invariant.means);
+      reads = turn_stop spell_frame (frame_behind c.args.pool.now i (length values)) (IsListedTo c.args.pool.now i values) c.args.count c.loop.counter c.args.end c.args.bytes.now c.loop.rest.now c.loop.listed c.in_err-after.field-0.0
+          c.loop.invariant c.loop-test.true (c.in_err-after.ensures.reads values c.loop.invariant.items c.loop.invariant.means);
     }
 
 pub loop-preserved : goal.loop-preserved
 loop-preserved c =
     let i = view_instructions c.args.instructions.now in
     let values = view_tags c.args.entry in
-    turn_more spell_frame (frame_behind c.args.pool.now i (length values)) (IsListedTo c.args.pool.now i values) c.args.count c.loop.counter c.args.bytes.now c.loop.rest.now c.in_ok-now.after.now c.loop.listed c.in_ok-now.now
-    (λ before x. spelled_alike c.args.pool.now i x) c.loop.invariant c.loop-test.true (c.in_ok-now.ensures.reads values c.loop.invariant.items c.loop.invariant.means)
+    turn_more spell_frame (frame_behind c.args.pool.now i (length values)) (IsListedTo c.args.pool.now i values) c.args.count c.loop.counter c.args.bytes.now c.loop.rest.now c.in_ok-after.after.now c.loop.listed c.frame_at.new.listed
+    (λ before x. spelled_alike c.args.pool.now i x) c.loop.invariant c.loop-test.true (c.in_ok-after.ensures.reads values c.loop.invariant.items c.loop.invariant.means)

@@ -1,4 +1,4 @@
-use Rattle.std.proofs.Common.{◌≡◌, ℕ, ◌+◌, List, ◌++◌, length, rules, ap, ◌∙◌, arith}
+use Rattle.std.proofs.Common.{◌≡◌, ℕ, ◌+◌, List, ◌++◌, length, rules, refl, ap, ◌∙◌, arith}
 use Rattle.std.proofs.lemmas.Grind.{common_steps}
 use Rattle.dj_frames.specs.declared.tag.Tag.{Tag}
 use Rattle.dj_frames.specs.SlotTree.{tag_in, first_tags}
@@ -14,3 +14,12 @@ returns-clause-ok c =
     ap (λ (n : ℕ). first_tags n (tag_in c.in_ok-depth.depth c.in_ok-tree.tree)) total
     ∙ first_appended i.count tags (tag_in i.depth i.tree) (tag_in c.in_ok-depth.depth c.in_ok-depth.tree) (tag_in c.in_ok-depth.depth c.in_ok-tree.tree) (λ s lt. c.in_ok-depth.ensures.same s (omega (arith, lt, c.self.invariant.1)))
     (λ s lt. c.in_ok-tree.ensures.put s (omega (arith, lt, total, c.in_ok-depth.ensures.room))) ∙ ap (λ (list : List Tag). list ++ tags) c.self.view_is
+
+pub returns-then-stand-clause-ok : goal.returns-then-stand-clause-ok
+returns-then-stand-clause-ok c =
+    let i = c.self.inside in
+    let tags = c.args.tags.now in
+    let sum = rw c.in_ok-count.ensures.ok_part at c.checked_add.ensures in
+    let total : c.in_ok-count.count ≡ i.count + length tags = first_of (search rules, grind (arith, common_steps)) in
+    ap (λ (n : ℕ). first_tags n (tag_in i.depth i.tree)) total
+    ∙ first_appended i.count tags (tag_in i.depth i.tree) (tag_in i.depth i.tree) (tag_in i.depth i.tree) (λ s lt. refl) (λ s lt. c.if-stand.ensures.stand s refl) ∙ ap (λ (list : List Tag). list ++ tags) c.self.view_is

@@ -1,0 +1,97 @@
+//! KnownNames that were read, of which those that come again soon are kept once.
+
+ghost use Rattle.std.specs.Prelude.{◌≡◌, IfOk, IfSome, IsTrue};
+
+use crate::names::units_of;
+use dj_names::{Items, Units};
+use std::alloc::{AllocError, Global};
+
+/// How many names are kept.
+const MOST: usize = 16;
+
+/// The last few names that were read.
+#[derive(Drop)]
+pub struct KnownNames {
+    names: Items<Units>,
+    next: usize,
+}
+
+impl KnownNames {
+    /// No names.
+    pub fn new(alloc: Global) -> KnownNames {
+        KnownNames {
+            names: Items::new(alloc),
+            next: 0,
+        }
+    }
+
+    /// The units of a word. They take room where the word isn't among the last names.
+    pub fn word(&mut self, alloc: Global, word: &[u8]) -> Result<Units, AllocError>
+        ensures units { IfOk result (λ units. units ≡ word.now) }
+    {
+        if let Some(units) = spelled(alloc, self.names.as_slice(), word)? {
+            return Ok(units);
+        }
+        let units = units_of(alloc, word)?;
+        self.keep(units.copy(alloc)?)?;
+        Ok(units)
+    }
+
+    /// The same name, in the room of an equal one where it is among the last names.
+    pub fn shared(&mut self, alloc: Global, name: Units) -> Result<Units, AllocError>
+        ensures same { IfOk result (λ shared. shared ≡ name) }
+    {
+        if let Some(units) = equal(alloc, self.names.as_slice(), &name)? {
+            return Ok(units);
+        }
+        self.keep(name.copy(alloc)?)?;
+        Ok(name)
+    }
+
+    /// Keeps a name, where there are many in the place of the one that is kept longest.
+    fn keep(&mut self, name: Units) -> Result<(), AllocError> {
+        let place = self.next % MOST;
+        if place < self.names.len() {
+            self.names.set(place, name);
+        } else {
+            self.names.push(name)?;
+        }
+        self.next = place + 1;
+        Ok(())
+    }
+}
+
+/// The one of the names that a word spells.
+fn spelled(alloc: Global, names: &[Units], word: &[u8]) -> Result<Option<Units>, AllocError>
+    ensures same { IfOk result (λ found. IfSome found (λ units. units ≡ word.now)) }
+{
+    for name in names {
+        if spells(word, name.as_slice()) {
+            return Ok(Some(name.copy(alloc)?));
+        }
+    }
+    Ok(None)
+}
+
+/// The one of the names that is equal to another.
+fn equal(alloc: Global, names: &[Units], other: &Units) -> Result<Option<Units>, AllocError>
+    ensures same { IfOk result (λ found. IfSome found (λ units. units ≡ other.now)) }
+{
+    for name in names {
+        if name == other {
+            return Ok(Some(name.copy(alloc)?));
+        }
+    }
+    Ok(None)
+}
+
+/// Whether a word has these units.
+fn spells(word: &[u8], units: &[u16]) -> bool
+    ensures units { IsTrue result → units.now ≡ word.now }
+{
+    units.len() == word.len()
+        && units
+            .iter()
+            .zip(word)
+            .all(|(unit, byte)| *unit == u16::from(*byte))
+}
