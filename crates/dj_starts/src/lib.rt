@@ -1,0 +1,17 @@
+//! Where control goes in typed code, where blocks start, and the births of objects (JVMS 2.10, 2.11.7, 4.10.1.9).
+//! It stands on `dj_code` for code and its frames, on `dj_instructions` for instructions, and on `dj_names` for names.
+//! The layers above use `edges`, which answers the ways from an instruction, `reached` and `block_starts`, which are exact, and `can_throw`.
+#![tactic(auto)]
+
+mod control;
+mod edges;
+mod marks;
+mod reach;
+mod starts;
+mod stores;
+mod tmp;
+
+pub use control::{Control, can_throw, control_of};
+pub use edges::{Edge, edges};
+pub use reach::reached;
+pub use starts::block_starts;

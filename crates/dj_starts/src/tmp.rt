@@ -1,0 +1,5 @@
+use crate::edges::{edges};
+#[test]
+fn t() -> Result<(), std::alloc::AllocError> {
+    Ok(())
+}
