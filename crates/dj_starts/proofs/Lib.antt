@@ -1,1 +1,5 @@
-
+pub mod Marking
+pub mod Visiting
+pub mod PcLemmas
+pub mod Finding
+pub mod Reaching

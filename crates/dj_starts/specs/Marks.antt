@@ -23,9 +23,9 @@ abbrev pub unmarked : List Bool → ℕ
 unmarked [] = 0
 unmarked (mark ∷ rest) = (if mark then 0 else 1) + unmarked rest
 
--- there is room for marks of all instructions
-pub record HasRoom (instructions : Instructions) (marks : List Bool) : Type 0 where
-  pub within : (pc : ℕ) → length marks ≤ pc → from_pc pc instructions ≡ []
+-- from this pc on no instruction begins
+pub record IsRoom (instructions : Instructions) (room : ℕ) : Type 0 where
+  pub within : (pc : ℕ) → room ≤ pc → from_pc pc instructions ≡ []
 
 -- one of the ways leads to the pc
 pub record IsTarget (ways : List Edge) (pc : ℕ) : Type 0 where

@@ -3,7 +3,7 @@
 ghost use Rattle.std.specs.Prelude.{◌≡◌, ◌↔◌, ℕ, length, IfOk, IsTrue};
 ghost use Rattle.std.specs.List.{Contains};
 ghost use Rattle.dj_instructions.specs.Instructions.{view_instructions, IsRising};
-ghost use Rattle.dj_starts.specs.Marks.{IsMarked, MarksMore, HasRoom};
+ghost use Rattle.dj_starts.specs.Marks.{IsMarked, MarksMore, IsRoom};
 
 use dj_code::Instruction;
 use dj_names::Items;
@@ -12,7 +12,7 @@ use std::alloc::{AllocError, Global};
 /// As many pcs as there are up to the last instruction.
 fn room(instructions: &[(u32, Instruction)]) -> usize
     requires rising { IsRising (view_instructions instructions.now) }
-    ensures room { (marks : Rattle.std.specs.Prelude.List Rattle.std.specs.Prelude.Bool) → length marks ≡ result → HasRoom (view_instructions instructions.now) marks }
+    ensures room { IsRoom (view_instructions instructions.now) result }
 {
     match instructions.last() {
         Some(at) => at.0 as usize + 1,
@@ -26,7 +26,7 @@ pub fn no_marks(
     instructions: &[(u32, Instruction)],
 ) -> Result<Items<bool>, AllocError>
     requires rising { IsRising (view_instructions instructions.now) }
-    ensures room { IfOk result (λ marks. HasRoom (view_instructions instructions.now) marks) }
+    ensures room { IfOk result (λ marks. IsRoom (view_instructions instructions.now) (length marks)) }
     ensures none { IfOk result (λ marks. (pc : ℕ) → ¬ IsMarked marks pc) }
 {
     let mut marks = Items::new(alloc);

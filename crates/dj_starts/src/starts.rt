@@ -95,6 +95,13 @@ fn mark_code(
     Ok(())
 }
 
+/// Whether a pc is marked in both lists.
+fn is_both_marked(seen: &[bool], begins: &[bool], pc: u32) -> bool
+    ensures exact { IsTrue result ↔ (IsMarked seen.now pc × IsMarked begins.now pc) }
+{
+    is_marked(seen, pc) && is_marked(begins, pc)
+}
+
 /// The pcs of instructions that are marked in both lists.
 fn both_marked(
     alloc: Global,
@@ -108,7 +115,7 @@ fn both_marked(
 {
     let mut starts = Items::new(alloc);
     for at in instructions {
-        if is_marked(seen, at.0) && is_marked(begins, at.0) {
+        if is_both_marked(seen, begins, at.0) {
             starts.push(at.0)?;
         }
     }
