@@ -4,7 +4,7 @@ use Rattle.std.specs.List.{Contains}
 use Rattle.std.proofs.lemmas.Bool.{cases_lt}
 use Rattle.dj_code.specs.MethodCode.{Code}
 use Rattle.dj_code.specs.Targets.{IsStart}
-use Rattle.dj_starts.specs.declared.edges.Edge.{Edge}
+use Rattle.dj_starts.specs.declared.ways.Edge.{Edge}
 use Rattle.dj_starts.specs.Edges.{Reaches, start, along, edges, first_edges, from_pc}
 use Rattle.dj_starts.specs.Marks.{IsMarked, IsRoom, IsTarget, GoesOn}
 use Rattle.dj_starts.proofs.Marking.{contains_none}

@@ -5,7 +5,7 @@ use Rattle.dj_instructions.specs.Instructions.{Instruction, Instructions}
 use Rattle.dj_code.specs.declared.method_code.Handler.{Handler}
 use Rattle.dj_code.specs.MethodCode.{Code}
 use Rattle.dj_code.specs.Targets.{targets_of}
-use Rattle.dj_starts.specs.declared.edges.Edge.{Edge}
+use Rattle.dj_starts.specs.declared.ways.Edge.{Edge}
 use Rattle.dj_starts.specs.Control.{control_of, falls_through, can_throw}
 
 -- the instructions from the one at this pc on, none where none begins there

@@ -4,7 +4,7 @@ use Rattle.std.specs.List.{Contains}
 use Rattle.dj_instructions.specs.Instructions.{Instructions}
 use Rattle.dj_code.specs.MethodCode.{Code}
 use Rattle.dj_code.specs.Targets.{IsStart}
-use Rattle.dj_starts.specs.declared.edges.Edge.{Edge}
+use Rattle.dj_starts.specs.declared.ways.Edge.{Edge}
 use Rattle.dj_starts.specs.Edges.{edges, from_pc}
 
 -- the pc is marked

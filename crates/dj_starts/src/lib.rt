@@ -4,14 +4,14 @@
 #![tactic(auto)]
 
 mod control;
-mod edges;
+
 mod marks;
 mod reach;
 mod starts;
 mod stores;
-mod tmp;
+mod ways;
 
 pub use control::{Control, can_throw, control_of};
-pub use edges::{Edge, edges};
+pub use ways::{Edge, edges};
 pub use reach::reached;
 pub use starts::block_starts;

@@ -7,7 +7,7 @@ ghost use Rattle.dj_code.specs.Targets.{IsStart};
 ghost use Rattle.dj_starts.specs.Edges.{Reaches};
 ghost use Rattle.dj_starts.specs.Marks.{IsMarked, IsTarget, Visits};
 
-use crate::edges::{Edge, edges};
+use crate::ways::{Edge, edges};
 use crate::marks::no_marks;
 use dj_code::Code;
 use dj_names::Items;

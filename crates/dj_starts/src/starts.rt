@@ -11,7 +11,7 @@ ghost use Rattle.dj_starts.specs.Starts.{TableAsks, EndsBlock, BeginsBehind, Cod
 ghost use Rattle.dj_starts.specs.Marks.{IsMarked, MarksMore, IsBothMarked};
 
 use crate::control::control_of;
-use crate::edges::{covers, push_targets};
+use crate::ways::{covers, push_targets};
 use crate::marks::{is_marked, mark, mark_all, no_marks};
 use crate::reach::reached;
 use crate::stores::changes_first;

@@ -1,5 +1,5 @@
 use Rattle.std.proofs.Common.{ℕ, ◌+◌, ◌≡◌, ◌⊎◌, false, [], take, get_or, arith, inl, inr, refl}
-use Rattle.dj_starts.specs.declared.edges.Edge.{Edge}
+use Rattle.dj_starts.specs.declared.ways.Edge.{Edge}
 use Rattle.dj_starts.specs.Marks.{IsTarget}
 use Rattle.dj_starts.proofs.Marking.{contains_none, contains_first, contains_more, contains_all, contained_all}
 use Rattle.dj_starts.proofs.Visiting.{visit_old, visit_both, visit_said}

@@ -1,7 +1,7 @@
 use Rattle.std.proofs.Common.{rules}
 use Rattle.std.proofs.lemmas.List.Sorted.{answers_always}
 use Rattle.dj_instructions.proofs.PlaceLemmas.{searched}
-use Rattle.dj_starts.proofs.edges.place_of.Goals as goal
+use Rattle.dj_starts.proofs.ways.place_of.Goals as goal
 
 pub returns : goal.returns
 returns c =

@@ -1,5 +1,0 @@
-use crate::edges::{edges};
-#[test]
-fn t() -> Result<(), std::alloc::AllocError> {
-    Ok(())
-}
