@@ -3,3 +3,5 @@ pub mod Visiting
 pub mod PcLemmas
 pub mod Finding
 pub mod Reaching
+pub mod Tags
+pub mod Asking

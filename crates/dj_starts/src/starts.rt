@@ -1,6 +1,6 @@
 //! Where blocks start.
 
-ghost use Rattle.std.specs.Prelude.{◌≡◌, ◌<◌, ◌↔◌, ℕ, IfOk, OnOk, IsTrue, map};
+ghost use Rattle.std.specs.Prelude.{◌≡◌, ◌<◌, ◌↔◌, ℕ, IfOk, OnOk, IsTrue, map, drop};
 ghost use Rattle.std.specs.List.{AllPairs, Contains};
 ghost use Rattle.dj_instructions.specs.Instructions.{view_instruction, view_instructions, IsRising};
 ghost use Rattle.dj_frames.specs.Frames.{view_frame};
@@ -30,12 +30,10 @@ fn in_range(handlers: &[Handler], pc: u32) -> bool
 fn mark_table(handlers: &[Handler], begins: &mut Items<bool>)
     ensures more { MarksMore begins.old begins.new (TableAsks handlers.now) }
 {
-    let mut left = handlers;
-    while let [handler, rest @ ..] = left {
+    for handler in handlers {
         mark(handler.start, begins);
         mark(handler.end, begins);
         mark(handler.target, begins);
-        left = rest;
     }
 }
 
@@ -72,6 +70,17 @@ fn mark_behind(
     }
 }
 
+/// The frames from a place on.
+fn frames_from(frames: &[Frame], place: usize) -> &[Frame]
+    ensures from { result.now ≡ drop place frames.now }
+{
+    if place < frames.len() {
+        &frames[place..]
+    } else {
+        &[]
+    }
+}
+
 /// Marks where instructions jump to, and those behind which others end a block.
 fn mark_code(
     alloc: Global,
@@ -82,15 +91,12 @@ fn mark_code(
 ) -> Result<(), AllocError>
     ensures more { OnOk result (MarksMore begins.old begins.new (CodeAsks handlers.now (view_instructions instructions.now) (map view_frame frames.now))) }
 {
-    let mut left = instructions;
-    let mut frames = frames;
-    while let [at, rest @ ..] = left {
+    for (place, at) in instructions.iter().enumerate() {
         let mut targets = Items::new(alloc);
         push_targets(&at.1, &mut targets)?;
         mark_all(targets.as_slice(), begins);
-        mark_behind(handlers, at, frames, rest, begins);
-        left = rest;
-        frames = frames.get(1..).unwrap_or(&[]);
+        let frames = frames_from(frames, place);
+        mark_behind(handlers, at, frames, &instructions[place + 1..], begins);
     }
     Ok(())
 }

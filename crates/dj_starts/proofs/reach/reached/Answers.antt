@@ -12,7 +12,7 @@ pub loop-pc-init : goal.loop-pc-init
 loop-pc-init c =
     let v = c.in_ok-visit.ensures.visits in
     record {
-      room = subst (λ n. IsRoom (view_code c.args.code.now).instructions n) (sym v.marks.room) c.in_ok-seen.ensures.room;
+      room = subst (λ n. IsRoom (view_code c.args.code.now).instructions n) (sym v.marks.room) (rw c.as_slice.ensures at c.in_ok-seen.ensures.room);
       first = λ some. v.marks.these 0 (omega (arith, v.marks.room)) refl;
       reached = λ pc h. elim (v.marks.only pc h) [ | inl old ↦ absurd (c.in_ok-seen.ensures.none pc old) | inr new ↦ start_at (view_code c.args.code.now) pc new ];
       waiting = λ pc h. elim (v.only pc h) [ | inl old ↦ absurd (contains_none pc (rw c.new-pending.ensures at old)) | inr marked ↦ marked ];
@@ -23,7 +23,7 @@ pub loop-pc-preserved : goal.loop-pc-preserved
 loop-pc-preserved c =
     let i = c.loop-pc.invariant in
     let v = c.in_ok-visit_all.ensures.visits in
-    let ways : c.as_slice.result.now ≡ edges (view_code c.args.code.now) c.in-Some.pc = c.as_slice.ensures ∙ c.in_ok-ways.ensures.edges in
+    let ways : c.as_slice-in-Some.result.now ≡ edges (view_code c.args.code.now) c.in-Some.pc = c.as_slice-in-Some.ensures ∙ c.in_ok-ways.ensures.edges in
     let popped : c.loop-pc.pending ≡ c.pop.new.self ++ c.in-Some.pc ∷ [] = c.in-Some.ensures in
     let here : Contains c.loop-pc.pending c.in-Some.pc = rw popped (Contains-push c.pop.new.self c.in-Some.pc) in
     record {
@@ -50,4 +50,10 @@ loop-pc-preserved c =
     }
 
 pub returns : goal.returns
-returns c = ?
+returns c = record {
+  exact = λ pc at.
+      let code = view_code c.args.code.now in
+      let i = c.loop-pc.invariant in
+      let closed = λ (q : ℕ) (h : IsMarked c.loop-pc.seen q). elim (i.closed q h) [ | inl waits ↦ absurd (contains_none q (rw c.in_default.ensures.0 at waits)) | inr on ↦ on ] in
+      (i.reached pc, λ reaches. all_marked code c.loop-pc.seen i.room i.first closed pc reaches (starts_within code c.loop-pc.seen i.room pc at));
+}
