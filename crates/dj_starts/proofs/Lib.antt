@@ -5,3 +5,4 @@ pub mod Finding
 pub mod Reaching
 pub mod Tags
 pub mod Asking
+pub mod Beginning

@@ -3,7 +3,7 @@ use Rattle.std.specs.List.{Contains}
 use Rattle.std.proofs.lemmas.List.Elements.{Contains-append_left, Contains-push, Contains-push_cases}
 use Rattle.dj_code.specs.MethodCode.{view_code}
 use Rattle.dj_starts.specs.Edges.{edges}
-use Rattle.dj_starts.specs.Marks.{IsMarked, IsRoom}
+use Rattle.dj_starts.specs.Marks.{IsMarked, IsRoom, GoesOn}
 use Rattle.dj_starts.proofs.Marking.{contains_none}
 use Rattle.dj_starts.proofs.Reaching.{all_marked, starts_within, start_at, reach_target}
 use Rattle.dj_starts.proofs.reach.reached.Goals as goal
@@ -54,6 +54,6 @@ returns c = record {
   exact = λ pc at.
       let code = view_code c.args.code.now in
       let i = c.loop-pc.invariant in
-      let closed = λ (q : ℕ) (h : IsMarked c.loop-pc.seen q). elim (i.closed q h) [ | inl waits ↦ absurd (contains_none q (rw c.in_default.ensures.0 at waits)) | inr on ↦ on ] in
+      let closed : (q : ℕ) → IsMarked c.loop-pc.seen q → GoesOn code c.loop-pc.seen q = λ q h. elim (i.closed q h) [ | inl waits ↦ absurd (contains_none q (rw c.in_default.ensures.0 at waits)) | inr on ↦ on ] in
       (i.reached pc, λ reaches. all_marked code c.loop-pc.seen i.room i.first closed pc reaches (starts_within code c.loop-pc.seen i.room pc at));
 }
