@@ -6,3 +6,5 @@ pub mod Reaching
 pub mod Tags
 pub mod Asking
 pub mod Beginning
+pub mod Dropping
+pub mod BetweenLemmas

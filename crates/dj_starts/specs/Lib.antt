@@ -2,5 +2,7 @@
 pub mod Control
 pub mod Edges
 pub mod Starts
+pub mod Births
 -- What the functions inside the crate promise each other.
 pub mod Marks
+pub mod Walking

@@ -3,14 +3,20 @@
 //! The layers above use `edges`, which answers the ways from an instruction, `reached` and `block_starts`, which are exact, and `can_throw`.
 #![tactic(auto)]
 
+mod birth;
+mod calls;
 mod control;
 
 mod marks;
 mod reach;
+mod roles;
 mod starts;
 mod stores;
+mod walk;
 mod ways;
+mod written;
 
+pub use birth::{Birth, births};
 pub use control::{Control, can_throw, control_of};
 pub use ways::{Edge, edges};
 pub use reach::reached;

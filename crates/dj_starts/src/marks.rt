@@ -10,7 +10,7 @@ use dj_names::Items;
 use std::alloc::{AllocError, Global};
 
 /// As many pcs as there are up to the last instruction.
-fn room(instructions: &[(u32, Instruction)]) -> usize
+pub fn room(instructions: &[(u32, Instruction)]) -> usize
     requires rising { IsRising (view_instructions instructions.now) }
     ensures room { IsRoom (view_instructions instructions.now) result }
 {

@@ -71,7 +71,7 @@ fn mark_behind(
 }
 
 /// The frames from a place on.
-fn frames_from(frames: &[Frame], place: usize) -> &[Frame]
+pub fn frames_from(frames: &[Frame], place: usize) -> &[Frame]
     ensures from { result.now ≡ drop place frames.now }
 {
     if place < frames.len() {
