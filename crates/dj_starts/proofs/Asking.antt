@@ -5,11 +5,12 @@ use Rattle.std.proofs.lemmas.List.{drop_more, drop_all, drop-map, drop-drop}
 use Rattle.dj_instructions.specs.declared.instruction.Instruction as declared
 use Rattle.dj_instructions.specs.Instructions.{view_instruction, view_instructions}
 use Rattle.dj_frames.specs.declared.frame.Frame as code_frame
-use Rattle.dj_frames.specs.Frames.{Frame, view_frame}
+use Rattle.dj_frames.specs.Frames.{Frame, view_frame, view_frames}
 use Rattle.dj_code.specs.declared.method_code.Handler.{Handler}
 use Rattle.dj_code.specs.Targets.{targets_of}
 use Rattle.dj_starts.specs.Edges.{first_pc}
 use Rattle.dj_starts.specs.Starts.{TableAsks, BeginsBehind, CodeAsks}
+use Rattle.dj_starts.specs.Births.{IsGiven, IsBound}
 use Rattle.dj_starts.specs.Marks.{MarksMore}
 use Rattle.dj_starts.proofs.Marking.{none_more, both_more}
 
@@ -47,3 +48,21 @@ code_step handlers all frames i at within is a b c after targets behind more =
 -- behind the last instruction nothing is asked for
 pub code_end : (handlers : List Handler) (all : List (ℕ × declared.Instruction)) (frames : List Frame) (i : ℕ) (marks : List Bool) → length all ≤ i → MarksMore marks marks (CodeAsks handlers (view_instructions (drop i all)) frames)
 code_end handlers all frames i marks past = rw (drop_all i all past) (none_more marks (CodeAsks handlers [] frames) (λ pc within asked. asked))
+
+-- one given frame more
+pub given_step : (frames : List (ℕ × code_frame.Frame)) (i : ℕ) (x : ℕ × code_frame.Frame) → i < length frames → x ≡ get_or frames i x → (a b after : List Bool) → MarksMore a b (λ pc. pc ≡ x.0) → MarksMore b after (IsGiven (view_frames (drop (i + 1) frames))) → MarksMore a after (IsGiven (view_frames (drop i frames)))
+given_step frames i x within is a b after here more =
+    subst (λ given. MarksMore a after (IsGiven (view_frames given))) (sym (from_item frames i x within is)) (both_more a b after (λ pc. pc ≡ x.0) (IsGiven (view_frames (drop (i + 1) frames))) here more)
+
+pub given_end : (frames : List (ℕ × code_frame.Frame)) (i : ℕ) (marks : List Bool) → length frames ≤ i → MarksMore marks marks (IsGiven (view_frames (drop i frames)))
+given_end frames i marks past = rw (drop_all i frames past) (none_more marks (IsGiven []) (λ pc within asked. asked))
+
+-- one range more
+pub bound_step : (handlers : List Handler) (i : ℕ) (x : Handler) → i < length handlers → x ≡ get_or handlers i x → (a b c after : List Bool) → MarksMore a b (λ pc. pc ≡ x.start) → MarksMore b c (λ pc. pc ≡ x.end) → MarksMore c after (IsBound (drop (i + 1) handlers)) → MarksMore a after (IsBound (drop i handlers))
+bound_step handlers i x within is a b c after start end more =
+    let rest = IsBound (drop (i + 1) handlers) in
+    subst (λ entries. MarksMore a after (IsBound entries)) (sym (from_item handlers i x within is))
+    (both_more a b after (λ pc. pc ≡ x.start) (λ pc. (pc ≡ x.end) ⊎ rest pc) start (both_more b c after (λ pc. pc ≡ x.end) rest end more))
+
+pub bound_end : (handlers : List Handler) (i : ℕ) (marks : List Bool) → length handlers ≤ i → MarksMore marks marks (IsBound (drop i handlers))
+bound_end handlers i marks past = rw (drop_all i handlers past) (none_more marks (IsBound []) (λ pc within asked. asked))

@@ -7,4 +7,6 @@ pub mod Tags
 pub mod Asking
 pub mod Beginning
 pub mod Dropping
+pub mod Constructing
+pub mod Stepping
 pub mod BetweenLemmas

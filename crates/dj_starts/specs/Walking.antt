@@ -201,10 +201,10 @@ end_of start None = start
 end_of start (Some call) = call
 
 -- the birth of the object of a `new`, by the table of calls and the marks
-pub record IsListed (instructions : Instructions) (calls : List Met) (written : List Bool) (birth : Birth) : Type 0 where
+pub record IsListed (instructions : Instructions) (calls : List Met) (marks : List Bool) (birth : Birth) : Type 0 where
   pub new : IsNewAt instructions birth.start
   pub end : birth.end ≡ end_of birth.start (only_call calls birth.start)
-  pub written : birth.written ≡ slice_index_or written birth.start false
+  pub written : birth.written ≡ slice_index_or marks birth.start false
 
 -- the marks are those of the pcs of instructions that are fenced
 pub record IsFences (code : Code) (marks : List Bool) : Type 0 where

@@ -1,9 +1,9 @@
 //! The walk over code that finds the births that can be written.
 
-ghost use Rattle.std.specs.Prelude.{◌≡◌, ◌<◌, ◌↔◌, ℕ, IsTrue, OnOk};
+ghost use Rattle.std.specs.Prelude.{◌≡◌, ◌<◌, ◌↔◌, ◌⊎◌, ℕ, false, IsTrue, OnOk};
 ghost use Rattle.std.specs.List.{AllPairs, Contains};
 ghost use Rattle.dj_starts.specs.Walking as spec;
-ghost use Rattle.dj_starts.specs.Walking.{IsCut, IsLastFrom, IsEnd, IsOver, IsStep};
+ghost use Rattle.dj_starts.specs.Walking.{IsCut, IsLastFrom, Begins, IsEnd, IsOver, IsStep};
 
 use crate::marks::mark;
 use crate::roles::Role;
@@ -91,6 +91,31 @@ fn walk_over(here: Role, behind: Role, ended: Option<u32>, walk: &mut Walk)
     }
 }
 
+/// No birth goes on over a fence.
+fn stop_fenced(fenced: bool, unborn: &mut Items<u32>)
+    requires rising { AllPairs (λ x y. x < y) unborn.old }
+    ensures rising { AllPairs (λ x y. x < y) unborn.new }
+    ensures left { (start : ℕ) → Contains unborn.new start ↔ (Contains unborn.old start × (fenced ≡ false)) }
+{
+    if fenced {
+        drop_from(0, unborn);
+    }
+}
+
+/// A birth begins with a `new`.
+fn push_new(here: Role, pc: u32, unborn: &mut Items<u32>) -> Result<(), AllocError>
+    requires rising { AllPairs (λ x y. x < y) unborn.old }
+    requires below { (start : ℕ) → Contains unborn.old start → start < pc }
+    ensures rising { OnOk result (AllPairs (λ x y. x < y) unborn.new) }
+    ensures begun { OnOk result ((start : ℕ) → Contains unborn.new start ↔ (Contains unborn.old start ⊎ Begins here pc start)) }
+{
+    match here {
+        Role::New => unborn.push(pc)?,
+        Role::Plain | Role::Never | Role::Dup | Role::Silent => {}
+    }
+    Ok(())
+}
+
 /// Walks over the instruction at a pc.
 pub fn step(
     fenced: bool,
@@ -104,13 +129,9 @@ pub fn step(
     requires below { (start : ℕ) → Contains walk.old.unborn start → start < pc }
     ensures step { OnOk result (IsStep fenced pc here behind ended walk.old walk.new) }
 {
-    if fenced {
-        drop_from(0, &mut walk.unborn);
-    }
+    stop_fenced(fenced, &mut walk.unborn);
     walk_over(here, behind, ended, walk);
     walk.before = here;
-    if here == Role::New {
-        walk.unborn.push(pc)?;
-    }
+    push_new(here, pc, &mut walk.unborn)?;
     Ok(())
 }
