@@ -15,7 +15,7 @@ use Rattle.dj_starts.specs.Marks.{MarksMore}
 use Rattle.dj_starts.proofs.Marking.{none_more, both_more}
 
 -- a list from a place on, by the item there
-from_item : {X : Type 0} (xs : List X) (i : ℕ) (x : X) → i < length xs → x ≡ get_or xs i x → drop i xs ≡ x ∷ drop (i + 1) xs
+pub from_item : {X : Type 0} (xs : List X) (i : ℕ) (x : X) → i < length xs → x ≡ get_or xs i x → drop i xs ≡ x ∷ drop (i + 1) xs
 from_item xs i x within is = drop_more xs i x within ∙ ap (λ y. y ∷ drop (i + 1) xs) (sym is)
 
 -- one entry more
@@ -31,7 +31,7 @@ table_step handlers i x within is a b c d after start end target more =
 pub table_end : (handlers : List Handler) (i : ℕ) (marks : List Bool) → length handlers ≤ i → MarksMore marks marks (TableAsks (drop i handlers))
 table_end handlers i marks past = rw (drop_all i handlers past) (none_more marks (TableAsks []) (λ pc within asked. asked))
 
-frames_step : (frames : List code_frame.Frame) (i : ℕ) → map view_frame (drop (i + 1) frames) ≡ drop 1 (map view_frame (drop i frames))
+pub frames_step : (frames : List code_frame.Frame) (i : ℕ) → map view_frame (drop (i + 1) frames) ≡ drop 1 (map view_frame (drop i frames))
 frames_step frames i = ap (map view_frame) (sym (drop-drop 1 i frames)) ∙ sym (drop-map view_frame 1 (drop i frames))
 
 -- one instruction more

@@ -9,4 +9,6 @@ pub mod Beginning
 pub mod Dropping
 pub mod Constructing
 pub mod Stepping
+pub mod Calling
+pub mod Walks
 pub mod BetweenLemmas
