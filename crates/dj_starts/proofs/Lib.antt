@@ -1,0 +1,14 @@
+pub mod Marking
+pub mod Visiting
+pub mod PcLemmas
+pub mod Finding
+pub mod Reaching
+pub mod Tags
+pub mod Asking
+pub mod Beginning
+pub mod Dropping
+pub mod Constructing
+pub mod Stepping
+pub mod Calling
+pub mod Walks
+pub mod BetweenLemmas
