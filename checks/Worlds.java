@@ -9,11 +9,12 @@ import com.sun.source.util.Trees;
 import java.io.BufferedReader;
 import java.io.File;
 import java.io.InputStreamReader;
-import java.lang.invoke.MethodHandle;
-import java.lang.invoke.MethodHandles;
 import java.lang.invoke.MethodHandles.Lookup;
 import java.lang.invoke.MethodType;
+import java.lang.reflect.AccessibleObject;
 import java.lang.reflect.Field;
+import java.lang.reflect.InvocationTargetException;
+import java.lang.reflect.Method;
 import java.net.URL;
 import java.net.URLClassLoader;
 import java.util.ArrayList;
@@ -36,6 +37,7 @@ import javax.tools.JavaCompiler;
 import javax.tools.JavaFileObject;
 import javax.tools.StandardJavaFileManager;
 import javax.tools.ToolProvider;
+import sun.misc.Unsafe;
 
 /**
  * Answers questions about the class files of a folder, a line each. `folder PATH` begins with a new one and has no answer.
@@ -49,13 +51,32 @@ import javax.tools.ToolProvider;
  */
 public class Worlds {
     static final JavaCompiler JAVAC = ToolProvider.getSystemJavaCompiler();
-    static final Lookup ALL = everything();
+    /** The kinds of references by JVMS table 5.4.3.5-A. */
+    static final byte GET_FIELD = 1, GET_STATIC = 2, INVOKE_VIRTUAL = 5, INVOKE_STATIC = 6, NEW_INVOKE_SPECIAL = 8, INVOKE_INTERFACE = 9;
 
-    static Lookup everything() {
+    /** A look-up to which all is open, and how it resolves a method and a field. */
+    static final Object ALL;
+    static final Method RESOLVE_METHOD, RESOLVE_FIELD, DECLARING_CLASS;
+
+    /** What a name of a method is resolved to; there the JVM keeps the class that holds the method, which Java doesn't see. */
+    static final Field TARGET;
+    static final Unsafe UNSAFE;
+    static final long HOLDER = 12;
+
+    static {
         try {
-            Field field = Lookup.class.getDeclaredField("IMPL_LOOKUP");
-            field.setAccessible(true);
-            return (Lookup) field.get(null);
+            Field everything = Lookup.class.getDeclaredField("IMPL_LOOKUP");
+            everything.setAccessible(true);
+            ALL = everything.get(null);
+            RESOLVE_METHOD = Lookup.class.getDeclaredMethod("resolveOrFail", byte.class, Class.class, String.class, MethodType.class);
+            RESOLVE_FIELD = Lookup.class.getDeclaredMethod("resolveOrFail", byte.class, Class.class, String.class, Class.class);
+            DECLARING_CLASS = Class.forName("java.lang.invoke.MemberName").getMethod("getDeclaringClass");
+            TARGET = Class.forName("java.lang.invoke.MemberName").getDeclaredField("method");
+            Field unsafe = Unsafe.class.getDeclaredField("theUnsafe");
+            for (AccessibleObject one : List.of(RESOLVE_METHOD, RESOLVE_FIELD, DECLARING_CLASS, TARGET, unsafe)) {
+                one.setAccessible(true);
+            }
+            UNSAFE = (Unsafe) unsafe.get(null);
         } catch (ReflectiveOperationException error) {
             throw new AssertionError(error);
         }
@@ -80,38 +101,33 @@ public class Worlds {
         return MethodType.fromMethodDescriptorString("(" + descriptor + ")V", loader).parameterType(0);
     }
 
-    static String declared(MethodHandle found) {
-        return ALL.revealDirect(found).getDeclaringClass().getName().replace('.', '/');
+    /** The class that declares what is found by one of two kinds of references. */
+    static String resolved(Method resolve, byte first, byte second, Object... words) throws Exception {
+        String why = "";
+        for (byte kind : new byte[] {first, second}) {
+            try {
+                Object member = resolve.invoke(ALL, kind, words[0], words[1], words[2]);
+                Object target = TARGET.get(member);
+                Object declared = target == null ? DECLARING_CLASS.invoke(member) : UNSAFE.getObject(target, HOLDER);
+                return ((Class<?>) declared).getName().replace('.', '/');
+            } catch (InvocationTargetException error) {
+                why += error.getCause();
+            }
+        }
+        return why.contains("Conflicting default methods") ? "conflict" : "none";
     }
 
     String method(String owner, String name, String descriptor) throws Exception {
         Class<?> from = named(owner);
         MethodType type = MethodType.fromMethodDescriptorString(descriptor, loader);
-        try {
-            if (name.equals("<init>")) {
-                return declared(ALL.findConstructor(from, type));
-            }
-            try {
-                return declared(ALL.findVirtual(from, name, type));
-            } catch (IllegalAccessException | NoSuchMethodException error) {
-                return declared(ALL.findStatic(from, name, type));
-            }
-        } catch (NoSuchMethodException | IllegalAccessException error) {
-            return error.getCause() instanceof AbstractMethodError ? "clash" : "none";
+        if (name.equals("<init>")) {
+            return resolved(RESOLVE_METHOD, NEW_INVOKE_SPECIAL, NEW_INVOKE_SPECIAL, from, name, type);
         }
+        return resolved(RESOLVE_METHOD, from.isInterface() ? INVOKE_INTERFACE : INVOKE_VIRTUAL, INVOKE_STATIC, from, name, type);
     }
 
     String field(String owner, String name, String descriptor) throws Exception {
-        Class<?> from = named(owner);
-        try {
-            try {
-                return declared(ALL.findGetter(from, name, typed(descriptor)));
-            } catch (IllegalAccessException | NoSuchFieldException error) {
-                return declared(ALL.findStaticGetter(from, name, typed(descriptor)));
-            }
-        } catch (NoSuchFieldException | IllegalAccessException error) {
-            return "none";
-        }
+        return resolved(RESOLVE_FIELD, GET_FIELD, GET_STATIC, named(owner), name, typed(descriptor));
     }
 
     // ---- javac

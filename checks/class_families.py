@@ -4,9 +4,15 @@ import collections, struct
 PUBLIC, PRIVATE, PROTECTED, STATIC, BRIDGE, INTERFACE, ABSTRACT, SYNTHETIC = 1, 2, 4, 8, 0x40, 0x200, 0x400, 0x1000
 OBJECT = "java/lang/Object"
 PACKAGES = ["p/", "q/", "q/s/"]
+ABOVE_ARRAYS = [f"L{OBJECT};", "Ljava/lang/Cloneable;", "Ljava/io/Serializable;"]
+WIDER = {"B": "SIJ", "S": "IJ", "C": "IJ", "I": "J"}
 WORDS = {"I": "int", "J": "long", "S": "short", "B": "byte", "C": "char", "Z": "boolean"}
 
 Member = collections.namedtuple("Member", "flags name descriptor")
+METHODS_OF_OBJECT = [
+    Member(PUBLIC, "toString", "()Ljava/lang/String;"), Member(PROTECTED, "clone", "()Ljava/lang/Object;"),
+    Member(PUBLIC, "hashCode", "()I"), Member(PROTECTED, "finalize", "()V"),
+]
 Call = collections.namedtuple("Call", "way caller number receiver name arguments")
 
 
@@ -84,6 +90,9 @@ class Family:
             self.classes.append(self.some_class(number))
         for one in self.classes:
             self.fill(one)
+        for one in self.classes:
+            if not one.is_interface() and self.leaves_open(one):
+                one.flags |= ABSTRACT
         for number in range(3):
             self.callers.append(self.some_caller(number))
         for caller in self.callers:
@@ -157,6 +166,50 @@ class Family:
             one.methods += [Member(PUBLIC if kind == "()V" else self.access(), "<init>", kind) for kind in sorted(kinds)]
         fields = {(rng.choice("xy"), self.some_type()) for _ in range(rng.randrange(4))}
         one.fields = [Member(0x19 if one.is_interface() else self.access() | rng.choice([0, STATIC]), *field) for field in sorted(fields)]
+
+    def class_of(self, name):
+        """The class or interface of this name, or None."""
+        return next((one for one in self.classes + self.callers if one.name == name), None)
+
+    def declared(self, owner, name, descriptor):
+        """The method that a class of the family declares, or None."""
+        methods = METHODS_OF_OBJECT if owner == OBJECT else getattr(self.class_of(owner), "methods", [])
+        return next((method for method in methods if method[1:] == (name, descriptor)), None)
+
+    def goes(self, kind, wanted):
+        """Whether a value of a type goes where another is wanted, without boxing (JLS 4.10, 5.1.2)."""
+        if kind == wanted or kind == "null" and wanted[0] in "L[" or wanted in WIDER.get(kind, ""):
+            return True
+        if kind[0] == "[":
+            return wanted in ABOVE_ARRAYS or wanted[0] == "[" and kind[1] in "L[" and self.goes(kind[1:], wanted[1:])
+        return kind[0] == "L" and (wanted == f"L{OBJECT};" or wanted[1:-1] in self.order(kind[1:-1]))
+
+    def order(self, name):
+        """The names of a class and its superclasses upward, and then of the interfaces of these, depth first."""
+        upward = []
+        while name:
+            upward.append(name)
+            one = self.class_of(name)
+            name = one.superclass if one else None
+        return upward + [each for name in upward for each in self.interfaces_above(name)]
+
+    def interfaces_above(self, name):
+        one = self.class_of(name)
+        return [each for interface in (one.interfaces if one else []) for each in [interface, *self.interfaces_above(interface)]]
+
+    def like(self, receiver, name, kinds):
+        """The methods of this name and these parameters in the order of search, each with its class."""
+        found = []
+        for owner in dict.fromkeys(self.order(receiver)):
+            one = self.class_of(owner)
+            methods = one.methods if one else [method for method in METHODS_OF_OBJECT if owner == OBJECT]
+            found += [(owner, method) for method in methods if method.name == name and parameters(method.descriptor) == kinds]
+        return found
+
+    def leaves_open(self, one):
+        """Whether a method is abstract in a class, its own or one from above."""
+        methods = {(method.name, tuple(parameters(method.descriptor))) for upper in self.all_above(one.name) for method in upper.methods}
+        return any(self.like(one.name, name, list(kinds))[0][1].flags & ABSTRACT for name, kinds in methods)
 
     # ---- callers
 

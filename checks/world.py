@@ -8,19 +8,17 @@ the exit status is 1.
 """
 import collections, pathlib, subprocess, sys, tempfile
 from asking import ask_each, end, given
-from class_families import OBJECT, Family
+from class_families import ABOVE_ARRAYS, ABSTRACT, METHODS_OF_OBJECT, OBJECT, STATIC, Family, parameters
 
 FOLDER = pathlib.Path(__file__).parent
 OPENED = ["--add-opens", "java.base/java.lang.invoke=ALL-UNNAMED", "-Xshare:auto"]
-OF_OBJECT = [("toString", "()Ljava/lang/String;"), ("clone", "()Ljava/lang/Object;"), ("hashCode", "()I"), ("finalize", "()V")]
-ABOVE_ARRAYS = ["Ljava/lang/Object;", "Ljava/lang/Cloneable;", "Ljava/io/Serializable;"]
 BATCH = 100
 
 
 def questions(family):
     """What is asked of a family, in the words of world_check and in those of Worlds.java, and the call where it is one."""
     rng, asked = family.rng, []
-    methods = [(method.name, method.descriptor) for one in family.classes for method in one.methods] + OF_OBJECT
+    methods = [(method.name, method.descriptor) for one in family.classes for method in one.methods] + [method[1:] for method in METHODS_OF_OBJECT]
     fields = [(field.name, field.descriptor) for one in family.classes for field in one.fields]
     for kind, members, count in (("method", methods, 30), ("field", fields, 12)):
         for _ in range(count if members else 0):
@@ -53,13 +51,56 @@ def told(program, family, asked):
     return answers[len(files) + 1:]
 
 
+# ---- rules by which answers may differ
+
+def explains_resolution(family, question, our, their):
+    """Why the JVM resolves a method otherwise (JVMS 5.4.3.3, 5.4.3.4), or None."""
+    _, _, name, descriptor = question.split()
+    mine = family.declared(our.split()[0], name, descriptor)
+    if mine is None or not family.class_of(our.split()[0]).is_interface():
+        return None
+    if their == "none":
+        return "the JVM finds no interface's method that is like a protected one of Object" if family.declared(OBJECT, name, descriptor) else None
+    method = family.declared(their, name, descriptor)
+    if method is None:
+        return "the JVM makes a method that throws where no default method is the one to take, and here the first in order is found"
+    if not family.class_of(their).is_interface():
+        return None
+    if method.flags & ABSTRACT:
+        return "of the abstract methods of interfaces the JVM may take any"
+    return "interfaces are searched depth first, and not for the most specific default method"
+
+
+def explains_choice(family, call, our, their):
+    """Why javac chooses another method, or None."""
+    owner, name, descriptor = our.split() if our != "none" else (None, None, None)
+    method = family.declared(owner, name, descriptor)
+    if their == "none" and method:
+        if call.way == "static" and not method.flags & STATIC:
+            return "javac takes no instance method by a class's name; here that is asked of the call and not of the choice"
+        if call.way == "super" and method.flags & ABSTRACT:
+            return "javac takes no abstract method by super; here that is asked of the call and not of the choice"
+        if call.way == "through" and method.flags & STATIC and family.class_of(owner).is_interface():
+            return "javac takes no static method of an interface by an expression; here that is asked of the call and not of the choice"
+    if method and method.flags & ABSTRACT and family.class_of(owner).is_interface() and not all(upper.flags & ABSTRACT for upper in family.all_above(call.receiver[1:-1])):
+        return "javac looks for no abstract method of an interface from a class that isn't abstract"
+    if their != "none":
+        kinds = parameters(their.split()[2])
+        if not all(map(family.goes, call.arguments, kinds)):
+            return "no conversion boxes (JLS 15.12.2.2 alone)"
+    first = their != "none" and family.like(call.receiver[1:-1], call.name, parameters(their.split()[2]))[0]
+    if first and (first[0], *first[1][1:]) != tuple(their.split()) or method and len(family.like(call.receiver[1:-1], call.name, parameters(descriptor))) > 1:
+        return "of methods of one name and parameters the first in the order of search alone is looked at"
+    return None
+
+
 def compare(family, question, call, our, their, tally, reasons, wrong):
     """Tallies an answer, and notes it where the rules don't explain a difference."""
     kind = question.split()[0]
     found = our.split()[0] if kind in ("method", "field") else our
     tally[kind, "none" if their in ("none", "no") else "found"] += 1
-    if found != their:
-        rule = None
+    if found != their.replace("Array clone", f"{OBJECT} clone"):
+        rule = explains_resolution(family, question, our, their) if kind == "method" else explains_choice(family, call, our, their) if call else None
         reasons[rule] += 1
         if rule is None:
             wrong.append((question, call and call.way, "ours", our, "theirs", their))
@@ -77,7 +118,7 @@ def main(words):
     program, count, rng = given(words, 2_000)
     tally, reasons, wrong = collections.Counter(), collections.Counter(), []
     with tempfile.TemporaryDirectory() as room:
-        subprocess.run(["javac", "-d", room, str(FOLDER / "Worlds.java")], check=True)
+        subprocess.run(["javac", "-XDignore.symbol.file", "-d", room, str(FOLDER / "Worlds.java")], check=True)
         for start in range(0, count, BATCH):
             lines, rows = [], []
             for number in range(start, min(count, start + BATCH)):

@@ -61,13 +61,20 @@ fn answer(alloc: Global, world: &mut World, line: &str) -> Result<String> {
     }
 }
 
+/// Answers a line in the world, which it may change.
+fn put_answer<W: Write>(alloc: Global, world: &mut World, out: &mut W, line: &str) -> Result<()> {
+    let answer = answer(alloc, world, line)?;
+    writeln!(out, "{answer}")?;
+    Ok(())
+}
+
 fn main(rt: HostRuntime) -> Result<()> {
     let alloc = rt.alloc();
-    let mut world = World::new(alloc);
     let mut out = BufWriter::new(alloc, io::writer(&rt))?;
-    for line in BufReader::new(alloc, rt.reader())?.lines(alloc) {
-        let answer = answer(alloc, &mut world, line?.as_str())?;
-        writeln!(out, "{answer}")?;
+    let lines = BufReader::new(alloc, rt.reader())?.lines(alloc);
+    let mut world = World::new(alloc);
+    for line in lines {
+        put_answer(alloc, &mut world, &mut out, line?.as_str())?;
     }
     out.flush()?;
     Ok(())

@@ -167,26 +167,48 @@ fn table_of(alloc: Global, world: &World) -> Result<MemberTable> {
     Ok(table)
 }
 
-fn choose_method(alloc: Global, world: &World, words: &[&str]) -> Result<String> {
+/// A call: where it stands, in which type and through which the method is searched for, its name and the arguments.
+#[derive(Drop)]
+struct Call {
+    from: ClassName,
+    receiver: JType,
+    through: Option<JType>,
+    name: Units,
+    arguments: Items<StaticType>,
+}
+
+fn call_of(alloc: Global, words: &[&str]) -> Result<Option<Call>> {
     let [from, receiver, through, name, arguments @ ..] = words else {
-        return word(alloc, "none");
+        return Ok(None);
     };
-    let from = class_of(alloc, from)?;
-    let receiver = type_of(alloc, receiver)?;
-    let through = through_of(alloc, through)?;
-    let name = units_of(alloc, name)?;
-    let arguments = static_types_of(alloc, arguments)?;
-    let table = table_of(alloc, world)?;
-    let found = choose(
+    Ok(Some(Call {
+        from: class_of(alloc, from)?,
+        receiver: type_of(alloc, receiver)?,
+        through: through_of(alloc, through)?,
+        name: units_of(alloc, name)?,
+        arguments: static_types_of(alloc, arguments)?,
+    }))
+}
+
+/// The method that a call means.
+fn chosen(world: &World, table: &MemberTable, call: &Call) -> Option<Member> {
+    choose(
         world.headers(),
-        &table,
-        &from,
-        &receiver,
-        through.as_ref(),
-        &name,
-        arguments.as_slice(),
-    );
-    tell(alloc, world, found)
+        table,
+        &call.from,
+        &call.receiver,
+        call.through.as_ref(),
+        &call.name,
+        call.arguments.as_slice(),
+    )
+}
+
+fn choose_method(alloc: Global, world: &World, words: &[&str]) -> Result<Option<Member>> {
+    let table = table_of(alloc, world)?;
+    match call_of(alloc, words)? {
+        Some(call) => Ok(chosen(world, &table, &call)),
+        None => Ok(None),
+    }
 }
 
 /// Answers the question of a line.
@@ -197,7 +219,7 @@ pub fn answer(alloc: Global, world: &World, words: &[&str]) -> Result<String> {
     match *question {
         "accessible" => accessible(alloc, world, rest),
         "assignable" => assignable(alloc, world, rest),
-        "choose" => choose_method(alloc, world, rest),
+        "choose" => tell(alloc, world, choose_method(alloc, world, rest)?),
         _ => tell(alloc, world, find(alloc, world, words)?),
     }
 }
