@@ -11,4 +11,5 @@ pub mod Constructing
 pub mod Stepping
 pub mod Calling
 pub mod Walks
+pub mod WalkSteps
 pub mod BetweenLemmas

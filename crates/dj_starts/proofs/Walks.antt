@@ -1,9 +1,10 @@
 -- The walk over code: what is known behind one instruction more.
 use Rattle.std.proofs.Common.{◌≡◌, ℕ, zero, suc, ◌+◌, ◌<◌, ◌≤◌, ◌==◌, ◌⊎◌, ◌↔◌, Bool, true, false, List, [], ◌∷◌, ◌++◌, Option, Some, None, length, drop, refl, sym, ap, ◌∙◌, subst, inl, inr, arith, ne_eqb}
 use Rattle.std.specs.List.{Contains}
-use Rattle.std.specs.Prelude.{slice_index_or, MatchOption, is_none, ◌&&◌}
+use Rattle.std.specs.Prelude.{slice_index_or, MatchOption, is_none, ◌&&◌, nat_lt, if◌then◌else◌}
 use Rattle.std.proofs.lemmas.Bool.{cases_lt, cases_Bool, cases_eq, and_parts, ltb-true, lt-ltb, false≢true}
 use Rattle.std.proofs.lemmas.Bool.Decides.{eqb_tells}
+use Rattle.std.proofs.lemmas.List.{drop-drop, get_or_past}
 use Rattle.std.proofs.lemmas.Option.{none-some, same_Some}
 use Rattle.dj_names.specs.MethodNames.{is_constructor}
 use Rattle.dj_names.specs.Types.{result_of}
@@ -66,3 +67,69 @@ before_next least (x ∷ done) at rest pc i rising is below =
       | inl same ↦ omega (arith, same.1, not_below (x.0 + 1) done (rises_before (x.0 + 1) done (at ∷ rest) rising.1))
       | inr differ ↦ before_next (x.0 + 1) done at rest pc i rising.1 (rw differ.0 at is) below
     ]
+
+-- ---- calls
+
+-- the pc of a call isn't below where the instructions begin
+meets_low : (least : ℕ) (l : Instructions) (frames : List Frame) (start call : ℕ) → IsRisingFrom least l → Meets l frames start call → least ≤ call
+meets_low least [] frames start call rising meets = absurd meets
+meets_low least (x ∷ l) frames start call rising (inl here) = omega (arith, rising.0, here.0)
+meets_low least (x ∷ l) frames start call rising (inr later) = omega (arith, rising.0, meets_low (x.0 + 1) l (drop 1 frames) start call rising.1 later)
+
+-- an instruction begins there
+meets_start : (least : ℕ) (l : Instructions) (frames : List Frame) (start call : ℕ) → IsRisingFrom least l → Meets l frames start call → (i : Instruction) × (instruction_at l call ≡ Some i)
+meets_start least [] frames start call rising meets = absurd meets
+meets_start least (x ∷ l) frames start call rising (inl here) = elim (eqb_tells x.0 call) [ | inl same ↦ (x.1, rw same.0 refl) | inr differ ↦ absurd (differ.1 here.0) ]
+meets_start least (x ∷ l) frames start call rising (inr later) =
+    let low = meets_low (x.0 + 1) l (drop 1 frames) start call rising.1 later in
+    let i = meets_start (x.0 + 1) l (drop 1 frames) start call rising.1 later in
+    (i.0, rw (ne_eqb x.0 call (λ same. omega (arith, same, low))) i.1)
+
+-- the call at a pc is the one of the instruction there
+meets_here : (least : ℕ) (done : Instructions) (at : ℕ × Instruction) (rest : Instructions) (frames : List Frame) (start : ℕ) → IsRisingFrom least (done ++ at ∷ rest) → Meets (done ++ at ∷ rest) frames start at.0 → ConstructsFirst at.1 (drop (length done) frames) start
+meets_here least [] at rest frames start rising (inl here) = here.1
+meets_here least [] at rest frames start rising (inr later) = let low = meets_low (at.0 + 1) rest (drop 1 frames) start at.0 rising.1 later in absurd (omega (arith, low))
+meets_here least (x ∷ done) at rest frames start rising (inl here) =
+    let low = not_below (x.0 + 1) done (rises_before (x.0 + 1) done (at ∷ rest) rising.1) in
+    let next = rises_behind (x.0 + 1) done (at ∷ rest) rising.1 in
+    absurd (omega (arith, low, next.0, here.0))
+meets_here least (x ∷ done) at rest frames start rising (inr later) =
+    let count : 1 + length done ≡ suc (length done) = omega arith in
+    subst (λ fs. ConstructsFirst at.1 fs start) (drop-drop (length done) 1 frames ∙ ap (λ n. drop n frames) count) (meets_here (x.0 + 1) done at rest (drop 1 frames) start rising.1 later)
+
+if_some : (b : Bool) (o : Option ℕ) (n : ℕ) → (if b then o else None) ≡ Some n → b ≡ true
+if_some true o n some = refl
+if_some false o n some = absurd (none-some n some)
+
+-- what constructs is a call without a result
+constructs_silent : (i : Instruction) (frames : List Frame) (start : ℕ) → ConstructsFirst i frames start → role_of i ≡ role.Silent
+constructs_silent i [] start constructs = absurd constructs
+constructs_silent i (frame ∷ frames) start constructs =
+    let both = and_parts (is_constructor constructs.method.name) (is_none (result_of constructs.method.descriptor)) (if_some _ _ start constructs.of) in
+    rw (constructs.is, both.1) refl
+
+-- ---- the table
+
+module _ (typed : Typed) (calls : List Met) (rising : IsRisingFrom 0 typed.code.instructions) (table : IsTable typed.code.instructions typed.frames calls) where
+  told : (start : ℕ) (m : Met) → Tells m (Meets typed.code.instructions typed.frames start) → MatchOption (call_behind start m) ((call : ℕ) → IsOnlyCall typed start call → ⊥) (IsOnlyCall typed start)
+  told start met.No tells = λ call only. tells call only.meets
+  told start (met.Once first) tells = elim (cases_Bool (nat_lt start first)) [
+      | inl behind ↦ rw behind (record { meets = tells.meets; only = tells.only; behind = ltb-true start first behind })
+      | inr before ↦ rw before (λ call only. false≢true (sym before ∙ lt-ltb start first (subst (λ n. start < n) (tells.only call only.meets) only.behind)))
+    ]
+  told start met.Often tells = λ call only. let one = only.only tells.one tells.meets in let other = only.only tells.other tells.also in omega (arith, tells.differ, one, other)
+
+  pub only_tells : (start : ℕ) → MatchOption (only_call calls start) ((call : ℕ) → IsOnlyCall typed start call → ⊥) (IsOnlyCall typed start)
+  only_tells start = elim (cases_lt start (length calls)) [
+      | inl within ↦ told start (slice_index_or calls start met.No) (table.tells start within)
+      | inr past ↦ rw (get_or_past calls start met.No past) (λ call only.
+          let i = meets_start 0 typed.code.instructions typed.frames start call rising only.meets in
+          let within : call < length calls = elim (cases_lt call (length calls)) [ | inl within ↦ within | inr out ↦ absurd (none_starts typed.code.instructions call (table.room.within call out) (rw i.1 refl)) ] in
+          omega (arith, within, only.behind))
+    ]
+
+  pub only_is : (start call : ℕ) → IsOnlyCall typed start call → only_call calls start ≡ Some call
+  only_is start call only = go (only_call calls start) (only_tells start) where
+    go : (o : Option ℕ) → MatchOption o ((call : ℕ) → IsOnlyCall typed start call → ⊥) (IsOnlyCall typed start) → o ≡ Some call
+    go None none = absurd (none call only)
+    go (Some other) is = ap Some (only.only other is.meets)
