@@ -3,7 +3,8 @@ use Rattle.std.proofs.Common.{◌≡◌, ℕ, ◌+◌, ◌<◌, ◌≤◌, ◌�
 use Rattle.std.specs.List.{Contains}
 use Rattle.std.specs.Prelude.{is_none, if◌then◌else◌, MatchOption}
 use Rattle.std.proofs.lemmas.Bool.{cases_lt, cases_Bool, cases_eq, true≢false, both_ways}
-use Rattle.std.proofs.lemmas.Option.{same_Some, MatchOption-at_some}
+use Rattle.std.proofs.lemmas.Bool.Decides.{eqb_tells}
+use Rattle.std.proofs.lemmas.Option.{none-some, same_Some, MatchOption-at_some}
 use Rattle.dj_names.specs.Types.{result_of}
 use Rattle.dj_instructions.specs.Instructions.{Instruction, Instructions, New, InvokeVirtual, InvokeSpecial, InvokeStatic, InvokeInterface, InvokeDynamic, instruction_at, IsRisingFrom}
 use Rattle.dj_frames.specs.StackMap.{IsNewAt}
@@ -16,7 +17,7 @@ use Rattle.dj_starts.specs.Births.{role_of, first_role, ConstructsFirst, Meets, 
 use Rattle.dj_starts.specs.Marks.{IsMarked, IsRoom, MarksMore}
 use Rattle.dj_starts.specs.Walking.{IsStep, IsWalked, IsEndedAt, IsFenced, IsTable, IsEnded, GoesOnTo, IsWrittenTo, GoesBy, Begins, barred_from, last_role, behind_all, only_call}
 use Rattle.dj_starts.proofs.PcLemmas.{none_starts}
-use Rattle.dj_starts.proofs.BetweenLemmas.{rises_behind, between_less, between_none, between_here, between_more, between_gap}
+use Rattle.dj_starts.proofs.BetweenLemmas.{not_below, rises_behind, between_less, between_none, between_here, between_more, between_gap}
 use Rattle.dj_starts.proofs.Constructing.{one_constructed}
 use Rattle.dj_starts.proofs.Walks.{at_here, before_next, meets_here, meets_start, constructs_silent, only_tells, only_is}
 
@@ -85,11 +86,19 @@ module _ (typed : Typed) (pc : ℕ) (ended : Option ℕ) (at : IsEndedAt typed p
 
 -- ---- one instruction more
 
+behind_push : (least : ℕ) (done : Instructions) (at : ℕ × Instruction) → behind_all least (done ++ at ∷ []) ≡ at.0 + 1
+behind_push least [] at = refl
+behind_push least (x ∷ done) at = behind_push (x.0 + 1) done at
+
+role_push : (before : Role) (done : Instructions) (at : ℕ × Instruction) → last_role before (done ++ at ∷ []) ≡ role_of at.1
+role_push before [] at = refl
+role_push before (x ∷ done) at = role_push (role_of x.1) done at
+
 module _ (typed : Typed) (done : Instructions) (at : ℕ × Instruction) (rest : Instructions) (split : typed.code.instructions ≡ done ++ at ∷ rest) (rising : IsRisingFrom 0 typed.code.instructions) where
   split_rising : IsRisingFrom 0 (done ++ at ∷ rest)
   split_rising = subst (λ l. IsRisingFrom 0 l) split rising
 
-  end_low : behind_all 0 done ≤ at.0
+  pub end_low : behind_all 0 done ≤ at.0
   end_low = (rises_behind 0 done (at ∷ rest) split_rising).0
 
   -- two births don't end at one call
@@ -116,6 +125,9 @@ module _ (typed : Typed) (done : Instructions) (at : ℕ × Instruction) (rest :
 
   before_this : (Asked : ℕ → Role → Role → Role → Type 0) (start : ℕ) → Between Asked start (behind_all 0 done) role.Plain typed.code.instructions → Between Asked start at.0 role.Plain typed.code.instructions
   before_this Asked start between = subst (λ l. Between Asked start at.0 role.Plain l) (sym split) (between_gap Asked start 0 done at rest role.Plain split_rising (subst (λ l. Between Asked start (behind_all 0 done) role.Plain l) split between))
+
+  starts_room : {n : ℕ} → IsRoom typed.code.instructions n → (start : ℕ) → IsNewAt typed.code.instructions start → start < n
+  starts_room {n} room start new = elim (cases_lt start n) [ | inl within ↦ within | inr past ↦ absurd (none_starts typed.code.instructions start (room.within start past) (rw new.here refl)) ]
 
   begun_before : (start : ℕ) → IsNewAt typed.code.instructions start → start < at.0 → start < behind_all 0 done
   begun_before start new below = before_next 0 done at rest start (New new.class) split_rising (subst (λ l. instruction_at l start ≡ Some (New new.class)) split new.here) below
@@ -210,3 +222,63 @@ module _ (typed : Typed) (done : Instructions) (at : ℕ × Instruction) (rest :
             let same : written.call ≡ at.0 = omega (arith, written.ended) in
             inr (ending start written.new (subst (λ n. IsWritten typed start n) same written.written))
       ]
+
+    -- the walk behind this instruction
+    pub walk_more : (old new : Walk) → IsStep fenced at.0 (role_of at.1) (first_role rest) ended old new → IsWalked typed done old → IsWalked typed (done ++ at ∷ []) new
+    walk_more old new step walked =
+        let end = behind_push 0 done at in
+        let goes = λ (start : ℕ). subst (λ before. Contains new.unborn start ↔ ((Contains old.unborn start × (fenced ≡ false) × GoesBy (barred_from before (role_of at.1) (first_role rest) ended) start) ⊎ Begins (role_of at.1) at.0 start)) walked.before (step.unborn start) in
+        record {
+          before = step.before ∙ sym (role_push role.Plain done at);
+          rising = step.rising;
+          unborn = λ start. subst (λ n. Contains new.unborn start ↔ GoesOnTo typed n start) (sym end) (
+              λ h. elim ((goes start).0 h) [
+                | inl was ↦ goes_more start (inl ((walked.unborn start).0 was.0, was.1, was.2))
+                | inr begins ↦ goes_more start (inr begins)
+              ],
+              λ h. elim (more_goes start h) [
+                | inl was ↦ (goes start).1 (inl ((walked.unborn start).1 was.0, was.1, was.2))
+                | inr begins ↦ (goes start).1 (inr begins)
+              ],
+            );
+          room = subst (λ n. IsRoom typed.code.instructions n) (sym step.written.room) walked.room;
+          written = λ start. subst (λ n. IsMarked new.written start ↔ IsWrittenTo typed n start) (sym end) (
+              λ h. elim (step.written.only start h) [
+                | inl was ↦ let w = (walked.written start).0 was in record { new = w.new; call = w.call; ended = omega (arith, w.ended, end_low); written = w.written }
+                | inr now ↦ written_more start now.1 now.2 ((walked.unborn start).0 now.3)
+              ],
+              λ h. elim (more_written start h) [
+                | inl was ↦ step.written.kept start ((walked.written start).1 was)
+                | inr now ↦ step.written.these start (starts_room walked.room start h.new) (now.0, now.1, now.2, (walked.unborn start).1 now.3)
+              ],
+            );
+        }
+
+-- ---- the whole walk
+
+-- before any instruction nothing goes on, and nothing is written
+pub walk_none : (typed : Typed) (walk : Walk) → walk.before ≡ role.Plain → walk.unborn ≡ [] → IsRoom typed.code.instructions (length walk.written) → ((pc : ℕ) → IsMarked walk.written pc → ⊥) → IsWalked typed [] walk
+walk_none typed walk before unborn room none = record {
+  before = before;
+  rising = rw unborn (λ i j d less within. absurd (omega arith));
+  unborn = λ start. rw unborn (λ h. absurd (omega (arith, h.1)), λ h. absurd (omega (arith, h.begun)));
+  room = room;
+  written = λ start. (λ h. absurd (none start h), λ h. absurd (omega (arith, h.ended)));
+}
+
+-- an instruction begins before the end
+starts_before : (least : ℕ) (l : Instructions) (pc : ℕ) (i : Instruction) → IsRisingFrom least l → instruction_at l pc ≡ Some i → pc < behind_all least l
+starts_before least [] pc i rising is = absurd (none-some i is)
+starts_before least (x ∷ l) pc i rising is = elim (eqb_tells x.0 pc) [
+    | inl same ↦ omega (arith, same.1, not_below (x.0 + 1) l rising.1)
+    | inr differ ↦ starts_before (x.0 + 1) l pc i rising.1 (rw differ.0 at is)
+  ]
+
+-- behind all instructions, what can be written is marked
+pub walk_all : (typed : Typed) (walk : Walk) → IsRisingFrom 0 typed.code.instructions → IsWalked typed typed.code.instructions walk → (start : ℕ) → IsNewAt typed.code.instructions start → IsMarked walk.written start ↔ ((call : ℕ) × IsWritten typed start call)
+walk_all typed walk rising walked start new = (
+    λ h. let w = (walked.written start).0 h in (w.call, w.written),
+    λ w.
+      let i = meets_start 0 typed.code.instructions typed.frames start w.0 rising w.1.call.meets in
+      (walked.written start).1 record { new = new; call = w.0; ended = starts_before 0 typed.code.instructions w.0 i.0 rising i.1; written = w.1 },
+  )

@@ -109,7 +109,7 @@ fn is_both_marked(seen: &[bool], begins: &[bool], pc: u32) -> bool
 }
 
 /// The pcs of instructions that are marked in both lists.
-fn both_marked(
+pub fn both_marked(
     alloc: Global,
     instructions: &[(u32, Instruction)],
     seen: &[bool],
