@@ -12,4 +12,6 @@ pub mod Stepping
 pub mod Calling
 pub mod Walks
 pub mod WalkSteps
+pub mod WalkPlaces
+pub mod Bearing
 pub mod BetweenLemmas

@@ -132,7 +132,7 @@ module _ (typed : Typed) (done : Instructions) (at : ℕ × Instruction) (rest :
   begun_before : (start : ℕ) → IsNewAt typed.code.instructions start → start < at.0 → start < behind_all 0 done
   begun_before start new below = before_next 0 done at rest start (New new.class) split_rising (subst (λ l. instruction_at l start ≡ Some (New new.class)) split new.here) below
 
-  here_is : instruction_at typed.code.instructions at.0 ≡ Some at.1
+  pub here_is : instruction_at typed.code.instructions at.0 ≡ Some at.1
   here_is = subst (λ l. instruction_at l at.0 ≡ Some at.1) (sym split) (at_here 0 done at rest split_rising)
 
   new_role : IsNewAt typed.code.instructions at.0 → role_of at.1 ≡ role.New

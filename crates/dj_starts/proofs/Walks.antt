@@ -44,7 +44,7 @@ fences_are code none given bounds room unmarked frames ranges =
 -- ---- places
 
 -- the instruction at a pc, among others that rise
-at_here : (least : ℕ) (done : Instructions) (at : ℕ × Instruction) (rest : Instructions) → IsRisingFrom least (done ++ at ∷ rest) → instruction_at (done ++ at ∷ rest) at.0 ≡ Some at.1
+pub at_here : (least : ℕ) (done : Instructions) (at : ℕ × Instruction) (rest : Instructions) → IsRisingFrom least (done ++ at ∷ rest) → instruction_at (done ++ at ∷ rest) at.0 ≡ Some at.1
 at_here least [] at rest rising = elim (eqb_tells at.0 at.0) [ | inl same ↦ rw same.0 refl | inr differ ↦ absurd (differ.1 refl) ]
 at_here least (x ∷ done) at rest rising =
     let low = not_below (x.0 + 1) done (rises_before (x.0 + 1) done (at ∷ rest) rising.1) in
@@ -77,7 +77,7 @@ meets_low least (x ∷ l) frames start call rising (inl here) = omega (arith, ri
 meets_low least (x ∷ l) frames start call rising (inr later) = omega (arith, rising.0, meets_low (x.0 + 1) l (drop 1 frames) start call rising.1 later)
 
 -- an instruction begins there
-meets_start : (least : ℕ) (l : Instructions) (frames : List Frame) (start call : ℕ) → IsRisingFrom least l → Meets l frames start call → (i : Instruction) × (instruction_at l call ≡ Some i)
+pub meets_start : (least : ℕ) (l : Instructions) (frames : List Frame) (start call : ℕ) → IsRisingFrom least l → Meets l frames start call → (i : Instruction) × (instruction_at l call ≡ Some i)
 meets_start least [] frames start call rising meets = absurd meets
 meets_start least (x ∷ l) frames start call rising (inl here) = elim (eqb_tells x.0 call) [ | inl same ↦ (x.1, rw same.0 refl) | inr differ ↦ absurd (differ.1 here.0) ]
 meets_start least (x ∷ l) frames start call rising (inr later) =
@@ -86,7 +86,7 @@ meets_start least (x ∷ l) frames start call rising (inr later) =
     (i.0, rw (ne_eqb x.0 call (λ same. omega (arith, same, low))) i.1)
 
 -- the call at a pc is the one of the instruction there
-meets_here : (least : ℕ) (done : Instructions) (at : ℕ × Instruction) (rest : Instructions) (frames : List Frame) (start : ℕ) → IsRisingFrom least (done ++ at ∷ rest) → Meets (done ++ at ∷ rest) frames start at.0 → ConstructsFirst at.1 (drop (length done) frames) start
+pub meets_here : (least : ℕ) (done : Instructions) (at : ℕ × Instruction) (rest : Instructions) (frames : List Frame) (start : ℕ) → IsRisingFrom least (done ++ at ∷ rest) → Meets (done ++ at ∷ rest) frames start at.0 → ConstructsFirst at.1 (drop (length done) frames) start
 meets_here least [] at rest frames start rising (inl here) = here.1
 meets_here least [] at rest frames start rising (inr later) = let low = meets_low (at.0 + 1) rest (drop 1 frames) start at.0 rising.1 later in absurd (omega (arith, low))
 meets_here least (x ∷ done) at rest frames start rising (inl here) =
@@ -102,7 +102,7 @@ if_some true o n some = refl
 if_some false o n some = absurd (none-some n some)
 
 -- what constructs is a call without a result
-constructs_silent : (i : Instruction) (frames : List Frame) (start : ℕ) → ConstructsFirst i frames start → role_of i ≡ role.Silent
+pub constructs_silent : (i : Instruction) (frames : List Frame) (start : ℕ) → ConstructsFirst i frames start → role_of i ≡ role.Silent
 constructs_silent i [] start constructs = absurd constructs
 constructs_silent i (frame ∷ frames) start constructs =
     let both = and_parts (is_constructor constructs.method.name) (is_none (result_of constructs.method.descriptor)) (if_some _ _ start constructs.of) in
