@@ -97,9 +97,9 @@ module _ (typed : Typed) (calls : List Met) (written : List Bool) (rising : IsRi
 
   is_end : (start end : ℕ) (o : Option ℕ) → MatchOption o ((call : ℕ) → IsOnlyCall typed start call → ⊥) (IsOnlyCall typed start) → IsOnlyCall typed start end ⊎ ((end ≡ start) × ((call : ℕ) → IsOnlyCall typed start call → ⊥)) → end ≡ end_of start o
   is_end start end None none (inl only) = absurd (none end only)
-  is_end start end None none (inr no) = no.0
+  is_end start end None none (inr without) = without.0
   is_end start end (Some call) is (inl only) = is.only end only.meets
-  is_end start end (Some call) is (inr no) = absurd (no.1 call is)
+  is_end start end (Some call) is (inr without) = absurd (without.1 call is)
 
   written_end : (start end : ℕ) → end ≡ end_of start (only_call calls start) → (call : ℕ) → IsWritten typed start call → IsWritten typed start end
   written_end start end is call w = subst (λ n. IsWritten typed start n) (sym (is ∙ ap (end_of start) (only_is typed calls rising table start call w.call))) w
@@ -109,20 +109,20 @@ module _ (typed : Typed) (calls : List Met) (written : List Bool) (rising : IsRi
     new = new;
     end = end_is start (only_call calls start) (only_tells typed calls rising table start);
     written = (
-        λ yes. let w = (exact start new).0 yes in written_end start (end_of start (only_call calls start)) refl w.0 w.1,
+        λ marked. let w = (exact start new).0 marked in written_end start (end_of start (only_call calls start)) refl w.0 w.1,
         λ w. (exact start new).1 (end_of start (only_call calls start), w),
       );
   }
 
   same_bool : (a b : Bool) → (a ≡ true → b ≡ true) → (b ≡ true → a ≡ true) → a ≡ b
   same_bool true b there back = sym (there refl)
-  same_bool false b there back = elim (cases_Bool b) [ | inl yes ↦ back yes ∙ sym yes | inr not ↦ sym not ]
+  same_bool false b there back = elim (cases_Bool b) [ | inl holds ↦ back holds ∙ sym holds | inr fails ↦ sym fails ]
 
   is_birth : (birth : Birth) → IsBirth typed birth → birth ≡ birth_of calls written birth.start
   is_birth birth is =
       let end = is_end birth.start birth.end (only_call calls birth.start) (only_tells typed calls rising table birth.start) is.end in
       let mark = same_bool birth.written (slice_index_or written birth.start false)
-          (λ yes. (exact birth.start is.new).1 (birth.end, is.written.0 yes))
+          (λ said. (exact birth.start is.new).1 (birth.end, is.written.0 said))
           (λ marked. let w = (exact birth.start is.new).0 marked in is.written.1 (written_end birth.start birth.end end w.0 w.1)) in
       ap (λ e. record { start = birth.start; end = e; written = birth.written }) end ∙ ap (λ w. record { start = birth.start; end = end_of birth.start (only_call calls birth.start); written = w }) mark
 
