@@ -1,13 +1,13 @@
 -- The list of births.
 use Rattle.std.proofs.Common.{◌≡◌, ℕ, zero, suc, ◌+◌, ◌<◌, ◌≤◌, ◌⊎◌, ◌↔◌, Bool, true, false, List, [], ◌∷◌, length, drop, get_or, map, Option, Some, None, refl, sym, ap, ◌∙◌, subst, inl, inr, arith, ne_eqb}
-use Rattle.std.specs.Prelude.{slice_index_or, MatchOption, IsTrue}
+use Rattle.std.specs.Prelude.{slice_index_or, MatchOption}
 use Rattle.std.specs.List.{Contains, AllPairs}
 use Rattle.std.proofs.lemmas.Bool.{cases_Bool, cases_lt}
 use Rattle.std.proofs.lemmas.Bool.Decides.{eqb_tells}
 use Rattle.std.proofs.lemmas.Option.{none-some, same_Some}
 use Rattle.std.proofs.lemmas.List.{drop_all, get_or-map, length-map}
 use Rattle.dj_instructions.specs.declared.instruction.Instruction as declared
-use Rattle.dj_instructions.specs.Instructions.{Instruction, Instructions, New, instruction_at, view_instruction, view_instructions, IsRisingFrom}
+use Rattle.dj_instructions.specs.Instructions.{Instructions, New, instruction_at, view_instruction, view_instructions, IsRisingFrom}
 use Rattle.dj_frames.specs.Reading.{IsNew}
 use Rattle.dj_frames.specs.StackMap.{IsNewAt}
 use Rattle.dj_code.specs.MethodCode.{Typed}
@@ -38,7 +38,7 @@ module _ (all : Listed) (i : ℕ) (x : ℕ × declared.Instruction) (within : i 
   news_skip not a after more =
       let rest = IsNewIn (view_instructions (drop (i + 1) all)) in
       subst (λ tail. MarksMore a after (IsNewIn (view_instructions tail))) (sym (from_item all i x within is))
-      (said_more a after rest (λ pc. ((pc ≡ x.0) × IsNew (view_instruction x.1)) ⊎ rest pc) (λ pc by. inr by) (λ pc by. elim by [ | inl here ↦ absurd (not here.1) | inr later ↦ later ]) more)
+      (said_more a after rest (λ pc. ((pc ≡ x.0) × IsNew (view_instruction x.1)) ⊎ rest pc) (λ pc by. inr by) (λ pc by. elim by [ inl here ↦ absurd (not here.1) | inr later ↦ later ]) more)
 
 pub news_end : (all : Listed) (i : ℕ) (marks : List Bool) → length all ≤ i → MarksMore marks marks (IsNewIn (view_instructions (drop i all)))
 news_end all i marks past = rw (drop_all i all past) (none_more marks (IsNewIn []) (λ pc within asked. asked))
@@ -52,9 +52,9 @@ new_low least (x ∷ l) pc rising (inr later) = omega (arith, rising.0, new_low 
 new_at : (least : ℕ) (l : Instructions) (pc : ℕ) → IsRisingFrom least l → IsNewIn l pc → IsNewAt l pc
 new_at least [] pc rising new = absurd new
 new_at least (x ∷ l) pc rising (inl here) = elim (eqb_tells x.0 pc) [
-    | inl same ↦ record { class = here.1.class; here = rw same.0 (ap Some here.1.is) }
-    | inr differ ↦ absurd (differ.1 (sym here.0))
-  ]
+  | inl same ↦ record { class = here.1.class; here = rw same.0 (ap Some here.1.is) }
+  | inr differ ↦ absurd (differ.1 (sym here.0))
+]
 new_at least (x ∷ l) pc rising (inr later) =
     let low = new_low (x.0 + 1) l pc rising.1 later in
     let n = new_at (x.0 + 1) l pc rising.1 later in
@@ -63,20 +63,20 @@ new_at least (x ∷ l) pc rising (inr later) =
 new_in : (l : Instructions) (pc : ℕ) (class : List ℕ) → instruction_at l pc ≡ Some (New class) → IsNewIn l pc
 new_in [] pc class is = absurd (none-some (New class) is)
 new_in (x ∷ l) pc class is = elim (eqb_tells x.0 pc) [
-    | inl same ↦ inl (sym same.1, record { class = class; is = same_Some x.1 (New class) (rw same.0 at is) })
-    | inr differ ↦ inr (new_in l pc class (rw differ.0 at is))
-  ]
+  | inl same ↦ inl (sym same.1, record { class = class; is = same_Some x.1 (New class) (rw same.0 at is) })
+  | inr differ ↦ inr (new_in l pc class (rw differ.0 at is))
+]
 
 -- the pcs that are marked in both lists are those of `new`
 pub news_are : (instructions : Instructions) (none marks : List Bool) (news : List ℕ) → IsRisingFrom 0 instructions → IsRoom instructions (length none) → ((pc : ℕ) → IsMarked none pc → ⊥) → MarksMore none marks (IsNewIn instructions) → ((pc : ℕ) → Contains news pc ↔ IsBothMarked instructions marks marks pc) → (pc : ℕ) → Contains news pc ↔ IsNewAt instructions pc
 news_are instructions none marks news rising room unmarked more both pc = (
-    λ h. elim (more.only pc ((both pc).0 h).one) [ | inl old ↦ absurd (unmarked pc old) | inr new ↦ new_at 0 instructions pc rising new ],
-    λ new.
+  λ h. elim (more.only pc ((both pc).0 h).one) [ inl old ↦ absurd (unmarked pc old) | inr new ↦ new_at 0 instructions pc rising new ],
+  λ new.
       let at : IsStart instructions pc = rw new.here refl in
-      let within : pc < length none = elim (cases_lt pc (length none)) [ | inl within ↦ within | inr past ↦ absurd (none_starts instructions pc (room.within pc past) at) ] in
+      let within : pc < length none = elim (cases_lt pc (length none)) [ inl within ↦ within | inr past ↦ absurd (none_starts instructions pc (room.within pc past) at) ] in
       let marked = more.these pc within (new_in instructions pc new.class new.here) in
       (both pc).1 record { at = at; one = marked; other = marked },
-  )
+)
 
 -- ---- births
 
@@ -109,28 +109,28 @@ module _ (typed : Typed) (calls : List Met) (written : List Bool) (rising : IsRi
     new = new;
     end = end_is start (only_call calls start) (only_tells typed calls rising table start);
     written = (
-        λ marked. let w = (exact start new).0 marked in written_end start (end_of start (only_call calls start)) refl w.0 w.1,
-        λ w. (exact start new).1 (end_of start (only_call calls start), w),
-      );
+      λ marked. let w = (exact start new).0 marked in written_end start (end_of start (only_call calls start)) refl w.0 w.1,
+      λ w. (exact start new).1 (end_of start (only_call calls start), w),
+    );
   }
 
   same_bool : (a b : Bool) → (a ≡ true → b ≡ true) → (b ≡ true → a ≡ true) → a ≡ b
   same_bool true b there back = sym (there refl)
-  same_bool false b there back = elim (cases_Bool b) [ | inl holds ↦ back holds ∙ sym holds | inr fails ↦ sym fails ]
+  same_bool false b there back = elim (cases_Bool b) [ inl holds ↦ back holds ∙ sym holds | inr fails ↦ sym fails ]
 
   is_birth : (birth : Birth) → IsBirth typed birth → birth ≡ birth_of calls written birth.start
   is_birth birth is =
       let end = is_end birth.start birth.end (only_call calls birth.start) (only_tells typed calls rising table birth.start) is.end in
       let mark = same_bool birth.written (slice_index_or written birth.start false)
-          (λ said. (exact birth.start is.new).1 (birth.end, is.written.0 said))
-          (λ marked. let w = (exact birth.start is.new).0 marked in is.written.1 (written_end birth.start birth.end end w.0 w.1)) in
+      (λ said. (exact birth.start is.new).1 (birth.end, is.written.0 said))
+      (λ marked. let w = (exact birth.start is.new).0 marked in is.written.1 (written_end birth.start birth.end end w.0 w.1)) in
       ap (λ e. record { start = birth.start; end = e; written = birth.written }) end ∙ ap (λ w. record { start = birth.start; end = end_of birth.start (only_call calls birth.start); written = w }) mark
 
   pub births_are : (news : List ℕ) (births : List Birth) → ((pc : ℕ) → Contains news pc ↔ IsNewAt typed.code.instructions pc) → births ≡ map (birth_of calls written) news → (birth : Birth) → Contains births birth ↔ IsBirth typed birth
   births_are news births news_is are birth = rw are (
-      λ h. let from = contains_map (birth_of calls written) news birth h in subst (λ b. IsBirth typed b) from.2 (birth_is from.0 ((news_is from.0).0 from.1)),
-      λ is. subst (λ b. Contains (map (birth_of calls written) news) b) (sym (is_birth birth is)) (map_contains (birth_of calls written) news birth.start ((news_is birth.start).1 is.new)),
-    )
+    λ h. let from = contains_map (birth_of calls written) news birth h in subst (λ b. IsBirth typed b) from.2 (birth_is from.0 ((news_is from.0).0 from.1)),
+    λ is. subst (λ b. Contains (map (birth_of calls written) news) b) (sym (is_birth birth is)) (map_contains (birth_of calls written) news birth.start ((news_is birth.start).1 is.new)),
+  )
 
 -- births of rising pcs rise
 pub births_rise : (calls : List Met) (written : List Bool) (news : List ℕ) (births : List Birth) → AllPairs (λ x y. x < y) news → births ≡ map (birth_of calls written) news → AllPairs (λ x y. x.start < y.start) births

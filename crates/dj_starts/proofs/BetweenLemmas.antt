@@ -1,5 +1,5 @@
 -- What is asked of instructions between two pcs, one instruction more.
-use Rattle.std.proofs.Common.{◌≡◌, ℕ, ◌+◌, ◌<◌, ◌≤◌, List, [], ◌∷◌, ◌++◌, refl, sym, subst, arith}
+use Rattle.std.proofs.Common.{ℕ, ◌+◌, ◌<◌, ◌≤◌, [], ◌∷◌, ◌++◌, arith}
 use Rattle.dj_instructions.specs.Instructions.{Instruction, Instructions, IsRisingFrom}
 use Rattle.dj_starts.specs.declared.roles.Role.{Role}
 use Rattle.dj_starts.specs.Births.{role_of, first_role, Between}

@@ -1,11 +1,11 @@
 -- The walk by places of the code's instructions.
-use Rattle.std.proofs.Common.{◌≡◌, ℕ, ◌+◌, ◌<◌, ◌≤◌, ◌↔◌, Bool, true, false, List, [], ◌∷◌, ◌++◌, Option, length, take, drop, get_or, map, refl, sym, ap, ◌∙◌, subst, arith}
+use Rattle.std.proofs.Common.{◌≡◌, ℕ, ◌+◌, ◌<◌, ◌≤◌, ◌↔◌, Bool, List, [], ◌∷◌, ◌++◌, Option, length, take, drop, get_or, map, refl, sym, ap, ◌∙◌, subst, arith}
 use Rattle.std.specs.Prelude.{IsTrue}
 use Rattle.std.specs.List.{Contains}
 use Rattle.std.proofs.lemmas.Bool.{both_ways}
 use Rattle.std.proofs.lemmas.List.{take-append-drop, take_more, take_all, map-append, length-map, length-take-le, drop-map}
 use Rattle.dj_instructions.specs.declared.instruction.Instruction as declared
-use Rattle.dj_instructions.specs.Instructions.{Instruction, Instructions, view_instruction, view_instructions, IsRising}
+use Rattle.dj_instructions.specs.Instructions.{Instruction, view_instruction, view_instructions, IsRising}
 use Rattle.dj_frames.specs.declared.frame.Frame as code_frame
 use Rattle.dj_frames.specs.Frames.{view_frame}
 use Rattle.dj_frames.specs.StackMap.{IsNewAt}

@@ -1,21 +1,21 @@
 -- What is known behind one instruction more of the walk.
 use Rattle.std.proofs.Common.{◌≡◌, ℕ, ◌+◌, ◌<◌, ◌≤◌, ◌⊎◌, ◌↔◌, Bool, true, false, List, [], ◌∷◌, ◌++◌, Option, Some, None, length, drop, refl, sym, ap, ◌∙◌, subst, inl, inr, arith}
 use Rattle.std.specs.List.{Contains}
-use Rattle.std.specs.Prelude.{is_none, if◌then◌else◌, MatchOption}
-use Rattle.std.proofs.lemmas.Bool.{cases_lt, cases_Bool, cases_eq, true≢false, both_ways}
+use Rattle.std.specs.Prelude.{is_none, if◌then◌else◌}
+use Rattle.std.proofs.lemmas.Bool.{cases_lt, cases_Bool}
 use Rattle.std.proofs.lemmas.Bool.Decides.{eqb_tells}
 use Rattle.std.proofs.lemmas.Option.{none-some, same_Some, MatchOption-at_some}
 use Rattle.dj_names.specs.Types.{result_of}
 use Rattle.dj_instructions.specs.Instructions.{Instruction, Instructions, New, InvokeVirtual, InvokeSpecial, InvokeStatic, InvokeInterface, InvokeDynamic, instruction_at, IsRisingFrom}
 use Rattle.dj_frames.specs.StackMap.{IsNewAt}
-use Rattle.dj_code.specs.MethodCode.{Code, Typed}
+use Rattle.dj_code.specs.MethodCode.{Typed}
 use Rattle.dj_starts.specs.declared.calls.Met.{Met}
 use Rattle.dj_starts.specs.declared.roles.Role.{Role}
 use Rattle.dj_starts.specs.declared.roles.Role.TheVariants as role
 use Rattle.dj_starts.specs.declared.walk.Walk.{Walk}
-use Rattle.dj_starts.specs.Births.{role_of, first_role, ConstructsFirst, Meets, IsOnlyCall, EndsInside, IsAllowed, IsFree, Between, IsWritten}
-use Rattle.dj_starts.specs.Marks.{IsMarked, IsRoom, MarksMore}
-use Rattle.dj_starts.specs.Walking.{IsStep, IsWalked, IsEndedAt, IsFenced, IsTable, IsEnded, GoesOnTo, IsWrittenTo, GoesBy, Begins, barred_from, last_role, behind_all, only_call}
+use Rattle.dj_starts.specs.Births.{role_of, first_role, Meets, IsOnlyCall, EndsInside, IsAllowed, IsFree, Between, IsWritten}
+use Rattle.dj_starts.specs.Marks.{IsMarked, IsRoom}
+use Rattle.dj_starts.specs.Walking.{IsStep, IsWalked, IsEndedAt, IsFenced, IsTable, IsEnded, GoesOnTo, IsWrittenTo, GoesBy, Begins, barred_from, last_role, behind_all}
 use Rattle.dj_starts.proofs.PcLemmas.{none_starts}
 use Rattle.dj_starts.proofs.BetweenLemmas.{not_below, rises_behind, between_less, between_none, between_here, between_more, between_gap}
 use Rattle.dj_starts.proofs.Constructing.{one_constructed}
@@ -127,7 +127,7 @@ module _ (typed : Typed) (done : Instructions) (at : ℕ × Instruction) (rest :
   before_this Asked start between = subst (λ l. Between Asked start at.0 role.Plain l) (sym split) (between_gap Asked start 0 done at rest role.Plain split_rising (subst (λ l. Between Asked start (behind_all 0 done) role.Plain l) split between))
 
   starts_room : {n : ℕ} → IsRoom typed.code.instructions n → (start : ℕ) → IsNewAt typed.code.instructions start → start < n
-  starts_room {n} room start new = elim (cases_lt start n) [ | inl within ↦ within | inr past ↦ absurd (none_starts typed.code.instructions start (room.within start past) (rw new.here refl)) ]
+  starts_room {n} room start new = elim (cases_lt start n) [ inl within ↦ within | inr past ↦ absurd (none_starts typed.code.instructions start (room.within start past) (rw new.here refl)) ]
 
   begun_before : (start : ℕ) → IsNewAt typed.code.instructions start → start < at.0 → start < behind_all 0 done
   begun_before start new below = before_next 0 done at rest start (New new.class) split_rising (subst (λ l. instruction_at l start ≡ Some (New new.class)) split new.here) below
@@ -147,9 +147,9 @@ module _ (typed : Typed) (done : Instructions) (at : ℕ × Instruction) (rest :
 
     not_fenced : IsFree typed.code at.0 (last_role role.Plain done) (role_of at.1) (first_role rest) → fenced ≡ false
     not_fenced free = elim (cases_Bool fenced) [
-        | inl is ↦ elim (fence is) [ | inl given ↦ absurd (free.frames given) | inr bound ↦ absurd (free.ranges bound) ]
-        | inr not ↦ not
-      ]
+      | inl is ↦ elim (fence is) [ inl given ↦ absurd (free.frames given) | inr bound ↦ absurd (free.ranges bound) ]
+      | inr not ↦ not
+    ]
 
     goes_more : (start : ℕ) → (GoesOnTo typed (behind_all 0 done) start × (fenced ≡ false) × GoesBy (barred_from (last_role role.Plain done) (role_of at.1) (first_role rest) ended) start) ⊎ Begins (role_of at.1) at.0 start → GoesOnTo typed (at.0 + 1) start
     goes_more start (inl was) = record {
@@ -169,18 +169,18 @@ module _ (typed : Typed) (done : Instructions) (at : ℕ × Instruction) (rest :
 
     more_goes : (start : ℕ) → GoesOnTo typed (at.0 + 1) start → (GoesOnTo typed (behind_all 0 done) start × (fenced ≡ false) × GoesBy (barred_from (last_role role.Plain done) (role_of at.1) (first_role rest) ended) start) ⊎ Begins (role_of at.1) at.0 start
     more_goes start goes = elim (cases_lt start at.0) [
-        | inl below ↦ inl (
-            record {
-              new = goes.new;
-              begun = begun_before start goes.new below;
-              allowed = between_less (IsAllowed typed start) start (behind_all 0 done) (at.0 + 1) role.Plain typed.code.instructions (omega (arith, end_low)) goes.allowed;
-              free = between_less (IsFree typed.code) start (behind_all 0 done) (at.0 + 1) role.Plain typed.code.instructions (omega (arith, end_low)) goes.free;
-            },
-            not_fenced (by_this (IsFree typed.code) start goes.free below),
-            allowed_goes typed at.0 ended ends one_ends start (last_role role.Plain done) (role_of at.1) (first_role rest) (by_this (IsAllowed typed start) start goes.allowed below),
-          )
-        | inr above ↦ let same : start ≡ at.0 = omega (arith, goes.begun) in inr (subst (λ r. Begins r at.0 start) (sym (new_role (subst (λ n. IsNewAt typed.code.instructions n) same goes.new))) same)
-      ]
+      | inl below ↦ inl (
+        record {
+          new = goes.new;
+          begun = begun_before start goes.new below;
+          allowed = between_less (IsAllowed typed start) start (behind_all 0 done) (at.0 + 1) role.Plain typed.code.instructions (omega (arith, end_low)) goes.allowed;
+          free = between_less (IsFree typed.code) start (behind_all 0 done) (at.0 + 1) role.Plain typed.code.instructions (omega (arith, end_low)) goes.free;
+        },
+        not_fenced (by_this (IsFree typed.code) start goes.free below),
+        allowed_goes typed at.0 ended ends one_ends start (last_role role.Plain done) (role_of at.1) (first_role rest) (by_this (IsAllowed typed start) start goes.allowed below),
+      )
+      | inr above ↦ let same : start ≡ at.0 = omega (arith, goes.begun) in inr (subst (λ r. Begins r at.0 start) (sym (new_role (subst (λ n. IsNewAt typed.code.instructions n) same goes.new))) same)
+    ]
 
     -- a birth that ends here and was going on can be written
     written_more : (start : ℕ) → ended ≡ Some start → fenced ≡ false → GoesOnTo typed (behind_all 0 done) start → IsWrittenTo typed (at.0 + 1) start
@@ -201,27 +201,27 @@ module _ (typed : Typed) (done : Instructions) (at : ℕ × Instruction) (rest :
 
     ending : (start : ℕ) → IsNewAt typed.code.instructions start → IsWritten typed start at.0 → (role_of at.1 ≡ role.Silent) × (ended ≡ Some start) × (fenced ≡ false) × GoesOnTo typed (behind_all 0 done) start
     ending start new written = (
-        ends_silent start written.call,
-        ended_is ended ends start written.call,
-        not_fenced (by_this (IsFree typed.code) start written.free written.call.behind),
-        record {
-          new = new;
-          begun = begun_before start new written.call.behind;
-          allowed = between_less (IsAllowed typed start) start (behind_all 0 done) at.0 role.Plain typed.code.instructions end_low written.between;
-          free = between_less (IsFree typed.code) start (behind_all 0 done) (at.0 + 1) role.Plain typed.code.instructions (omega (arith, end_low)) written.free;
-        },
-      )
+      ends_silent start written.call,
+      ended_is ended ends start written.call,
+      not_fenced (by_this (IsFree typed.code) start written.free written.call.behind),
+      record {
+        new = new;
+        begun = begun_before start new written.call.behind;
+        allowed = between_less (IsAllowed typed start) start (behind_all 0 done) at.0 role.Plain typed.code.instructions end_low written.between;
+        free = between_less (IsFree typed.code) start (behind_all 0 done) (at.0 + 1) role.Plain typed.code.instructions (omega (arith, end_low)) written.free;
+      },
+    )
 
     -- what can be written was so before, or ends here
     more_written : (start : ℕ) → IsWrittenTo typed (at.0 + 1) start → IsWrittenTo typed (behind_all 0 done) start ⊎ ((role_of at.1 ≡ role.Silent) × (ended ≡ Some start) × (fenced ≡ false) × GoesOnTo typed (behind_all 0 done) start)
     more_written start written = elim (cases_lt written.call at.0) [
-        | inl below ↦
-            let i = meets_start 0 typed.code.instructions typed.frames start written.call rising written.written.call.meets in
-            inl record { new = written.new; call = written.call; ended = before_next 0 done at rest written.call i.0 split_rising (subst (λ l. instruction_at l written.call ≡ Some i.0) split i.1) below; written = written.written }
-        | inr above ↦
-            let same : written.call ≡ at.0 = omega (arith, written.ended) in
-            inr (ending start written.new (subst (λ n. IsWritten typed start n) same written.written))
-      ]
+      | inl below ↦
+          let i = meets_start 0 typed.code.instructions typed.frames start written.call rising written.written.call.meets in
+          inl record { new = written.new; call = written.call; ended = before_next 0 done at rest written.call i.0 split_rising (subst (λ l. instruction_at l written.call ≡ Some i.0) split i.1) below; written = written.written }
+      | inr above ↦
+          let same : written.call ≡ at.0 = omega (arith, written.ended) in
+          inr (ending start written.new (subst (λ n. IsWritten typed start n) same written.written))
+    ]
 
     -- the walk behind this instruction
     pub walk_more : (old new : Walk) → IsStep fenced at.0 (role_of at.1) (first_role rest) ended old new → IsWalked typed done old → IsWalked typed (done ++ at ∷ []) new
@@ -232,26 +232,26 @@ module _ (typed : Typed) (done : Instructions) (at : ℕ × Instruction) (rest :
           before = step.before ∙ sym (role_push role.Plain done at);
           rising = step.rising;
           unborn = λ start. subst (λ n. Contains new.unborn start ↔ GoesOnTo typed n start) (sym end) (
-              λ h. elim ((goes start).0 h) [
-                | inl was ↦ goes_more start (inl ((walked.unborn start).0 was.0, was.1, was.2))
-                | inr begins ↦ goes_more start (inr begins)
-              ],
-              λ h. elim (more_goes start h) [
-                | inl was ↦ (goes start).1 (inl ((walked.unborn start).1 was.0, was.1, was.2))
-                | inr begins ↦ (goes start).1 (inr begins)
-              ],
-            );
+            λ h. elim ((goes start).0 h) [
+              | inl was ↦ goes_more start (inl ((walked.unborn start).0 was.0, was.1, was.2))
+              | inr begins ↦ goes_more start (inr begins)
+            ],
+            λ h. elim (more_goes start h) [
+              | inl was ↦ (goes start).1 (inl ((walked.unborn start).1 was.0, was.1, was.2))
+              | inr begins ↦ (goes start).1 (inr begins)
+            ],
+          );
           room = subst (λ n. IsRoom typed.code.instructions n) (sym step.written.room) walked.room;
           written = λ start. subst (λ n. IsMarked new.written start ↔ IsWrittenTo typed n start) (sym end) (
-              λ h. elim (step.written.only start h) [
-                | inl was ↦ let w = (walked.written start).0 was in record { new = w.new; call = w.call; ended = omega (arith, w.ended, end_low); written = w.written }
-                | inr now ↦ written_more start now.1 now.2 ((walked.unborn start).0 now.3)
-              ],
-              λ h. elim (more_written start h) [
-                | inl was ↦ step.written.kept start ((walked.written start).1 was)
-                | inr now ↦ step.written.these start (starts_room walked.room start h.new) (now.0, now.1, now.2, (walked.unborn start).1 now.3)
-              ],
-            );
+            λ h. elim (step.written.only start h) [
+              | inl was ↦ let w = (walked.written start).0 was in record { new = w.new; call = w.call; ended = omega (arith, w.ended, end_low); written = w.written }
+              | inr now ↦ written_more start now.1 now.2 ((walked.unborn start).0 now.3)
+            ],
+            λ h. elim (more_written start h) [
+              | inl was ↦ step.written.kept start ((walked.written start).1 was)
+              | inr now ↦ step.written.these start (starts_room walked.room start h.new) (now.0, now.1, now.2, (walked.unborn start).1 now.3)
+            ],
+          );
         }
 
 -- ---- the whole walk
@@ -270,15 +270,15 @@ walk_none typed walk before unborn room none = record {
 starts_before : (least : ℕ) (l : Instructions) (pc : ℕ) (i : Instruction) → IsRisingFrom least l → instruction_at l pc ≡ Some i → pc < behind_all least l
 starts_before least [] pc i rising is = absurd (none-some i is)
 starts_before least (x ∷ l) pc i rising is = elim (eqb_tells x.0 pc) [
-    | inl same ↦ omega (arith, same.1, not_below (x.0 + 1) l rising.1)
-    | inr differ ↦ starts_before (x.0 + 1) l pc i rising.1 (rw differ.0 at is)
-  ]
+  | inl same ↦ omega (arith, same.1, not_below (x.0 + 1) l rising.1)
+  | inr differ ↦ starts_before (x.0 + 1) l pc i rising.1 (rw differ.0 at is)
+]
 
 -- behind all instructions, what can be written is marked
 pub walk_all : (typed : Typed) (walk : Walk) → IsRisingFrom 0 typed.code.instructions → IsWalked typed typed.code.instructions walk → (start : ℕ) → IsNewAt typed.code.instructions start → IsMarked walk.written start ↔ ((call : ℕ) × IsWritten typed start call)
 walk_all typed walk rising walked start new = (
-    λ h. let w = (walked.written start).0 h in (w.call, w.written),
-    λ w.
+  λ h. let w = (walked.written start).0 h in (w.call, w.written),
+  λ w.
       let i = meets_start 0 typed.code.instructions typed.frames start w.0 rising w.1.call.meets in
       (walked.written start).1 record { new = new; call = w.0; ended = starts_before 0 typed.code.instructions w.0 i.0 rising i.1; written = w.1 },
-  )
+)

@@ -1,43 +1,37 @@
 -- The walk over code: what is known behind one instruction more.
-use Rattle.std.proofs.Common.{◌≡◌, ℕ, zero, suc, ◌+◌, ◌<◌, ◌≤◌, ◌==◌, ◌⊎◌, ◌↔◌, Bool, true, false, List, [], ◌∷◌, ◌++◌, Option, Some, None, length, drop, refl, sym, ap, ◌∙◌, subst, inl, inr, arith, ne_eqb}
-use Rattle.std.specs.List.{Contains}
-use Rattle.std.specs.Prelude.{slice_index_or, MatchOption, is_none, ◌&&◌, nat_lt, if◌then◌else◌}
-use Rattle.std.proofs.lemmas.Bool.{cases_lt, cases_Bool, cases_eq, and_parts, ltb-true, lt-ltb, false≢true}
+use Rattle.std.proofs.Common.{◌≡◌, ℕ, suc, ◌+◌, ◌<◌, ◌≤◌, Bool, true, false, List, [], ◌∷◌, ◌++◌, Option, Some, None, length, drop, refl, sym, ap, ◌∙◌, subst, inl, inr, arith, ne_eqb}
+use Rattle.std.specs.Prelude.{slice_index_or, MatchOption, is_none, nat_lt, if◌then◌else◌}
+use Rattle.std.proofs.lemmas.Bool.{cases_lt, cases_Bool, and_parts, ltb-true, lt-ltb, false≢true}
 use Rattle.std.proofs.lemmas.Bool.Decides.{eqb_tells}
 use Rattle.std.proofs.lemmas.List.{drop-drop, get_or_past}
-use Rattle.std.proofs.lemmas.Option.{none-some, same_Some}
+use Rattle.std.proofs.lemmas.Option.{none-some}
 use Rattle.dj_names.specs.MethodNames.{is_constructor}
 use Rattle.dj_names.specs.Types.{result_of}
-use Rattle.dj_instructions.specs.Instructions.{Instruction, Instructions, MethodRef, New, InvokeSpecial, instruction_at, IsRisingFrom}
+use Rattle.dj_instructions.specs.Instructions.{Instruction, Instructions, instruction_at, IsRisingFrom}
 use Rattle.dj_frames.specs.Frames.{Frame}
-use Rattle.dj_frames.specs.StackMap.{IsNewAt}
 use Rattle.dj_code.specs.MethodCode.{Code, Typed}
 use Rattle.dj_code.specs.Targets.{IsStart}
 use Rattle.dj_starts.specs.declared.calls.Met.{Met}
 use Rattle.dj_starts.specs.declared.calls.Met.TheVariants as met
-use Rattle.dj_starts.specs.declared.roles.Role.{Role}
 use Rattle.dj_starts.specs.declared.roles.Role.TheVariants as role
-use Rattle.dj_starts.specs.declared.walk.Walk.{Walk}
-use Rattle.dj_starts.specs.Edges.{from_pc}
-use Rattle.dj_starts.specs.Births.{role_of, first_role, constructed_by, ConstructsFirst, Meets, IsOnlyCall, EndsInside, IsAllowed, IsFree, Between, IsWritten, IsGiven, IsBound}
+use Rattle.dj_starts.specs.Births.{role_of, ConstructsFirst, Meets, IsOnlyCall, IsGiven, IsBound}
 use Rattle.dj_starts.specs.Marks.{IsMarked, IsRoom, MarksMore}
-use Rattle.dj_starts.specs.Walking.{IsStep, IsWalked, IsEndedAt, IsFenced, IsFences, IsTable, IsEnded, GoesOnTo, IsWrittenTo, GoesBy, Begins, Tells, barred_from, last_role, behind_all, only_call, call_behind}
-use Rattle.dj_starts.proofs.Marking.{both_more, marked_within}
+use Rattle.dj_starts.specs.Walking.{IsFences, IsTable, Tells, behind_all, only_call, call_behind}
+use Rattle.dj_starts.proofs.Marking.{both_more}
 use Rattle.dj_starts.proofs.PcLemmas.{none_starts}
-use Rattle.dj_starts.proofs.BetweenLemmas.{not_below, rises_behind, rises_before, between_past, between_less, between_none, between_here, between_more}
-use Rattle.dj_starts.proofs.Constructing.{one_constructed}
+use Rattle.dj_starts.proofs.BetweenLemmas.{not_below, rises_behind, rises_before}
 
 -- ---- fences
 
 -- where an instruction begins, there is room
 room_within : (code : Code) (marks : List Bool) → IsRoom code.instructions (length marks) → (pc : ℕ) → IsStart code.instructions pc → pc < length marks
-room_within code marks room pc at = elim (cases_lt pc (length marks)) [ | inl within ↦ within | inr past ↦ absurd (none_starts code.instructions pc (room.within pc past) at) ]
+room_within code marks room pc at = elim (cases_lt pc (length marks)) [ inl within ↦ within | inr past ↦ absurd (none_starts code.instructions pc (room.within pc past) at) ]
 
 pub fences_are : (code : Code) (none given bounds : List Bool) → IsRoom code.instructions (length none) → ((pc : ℕ) → IsMarked none pc → ⊥) → MarksMore none given (IsGiven code.frames) → MarksMore given bounds (IsBound code.handlers) → IsFences code bounds
 fences_are code none given bounds room unmarked frames ranges =
     let all = both_more none given bounds (IsGiven code.frames) (IsBound code.handlers) frames ranges in
     record {
-      marked = λ pc h. elim (all.only pc h) [ | inl old ↦ absurd (unmarked pc old) | inr by ↦ by ];
+      marked = λ pc h. elim (all.only pc h) [ inl old ↦ absurd (unmarked pc old) | inr by ↦ by ];
       fenced = λ pc at by. all.these pc (room_within code none room pc at) by;
     }
 
@@ -45,7 +39,7 @@ fences_are code none given bounds room unmarked frames ranges =
 
 -- the instruction at a pc, among others that rise
 pub at_here : (least : ℕ) (done : Instructions) (at : ℕ × Instruction) (rest : Instructions) → IsRisingFrom least (done ++ at ∷ rest) → instruction_at (done ++ at ∷ rest) at.0 ≡ Some at.1
-at_here least [] at rest rising = elim (eqb_tells at.0 at.0) [ | inl same ↦ rw same.0 refl | inr differ ↦ absurd (differ.1 refl) ]
+at_here least [] at rest rising = elim (eqb_tells at.0 at.0) [ inl same ↦ rw same.0 refl | inr differ ↦ absurd (differ.1 refl) ]
 at_here least (x ∷ done) at rest rising =
     let low = not_below (x.0 + 1) done (rises_before (x.0 + 1) done (at ∷ rest) rising.1) in
     let next = rises_behind (x.0 + 1) done (at ∷ rest) rising.1 in
@@ -79,7 +73,7 @@ meets_low least (x ∷ l) frames start call rising (inr later) = omega (arith, r
 -- an instruction begins there
 pub meets_start : (least : ℕ) (l : Instructions) (frames : List Frame) (start call : ℕ) → IsRisingFrom least l → Meets l frames start call → (i : Instruction) × (instruction_at l call ≡ Some i)
 meets_start least [] frames start call rising meets = absurd meets
-meets_start least (x ∷ l) frames start call rising (inl here) = elim (eqb_tells x.0 call) [ | inl same ↦ (x.1, rw same.0 refl) | inr differ ↦ absurd (differ.1 here.0) ]
+meets_start least (x ∷ l) frames start call rising (inl here) = elim (eqb_tells x.0 call) [ inl same ↦ (x.1, rw same.0 refl) | inr differ ↦ absurd (differ.1 here.0) ]
 meets_start least (x ∷ l) frames start call rising (inr later) =
     let low = meets_low (x.0 + 1) l (drop 1 frames) start call rising.1 later in
     let i = meets_start (x.0 + 1) l (drop 1 frames) start call rising.1 later in
@@ -114,19 +108,19 @@ module _ (typed : Typed) (calls : List Met) (rising : IsRisingFrom 0 typed.code.
   told : (start : ℕ) (m : Met) → Tells m (Meets typed.code.instructions typed.frames start) → MatchOption (call_behind start m) ((call : ℕ) → IsOnlyCall typed start call → ⊥) (IsOnlyCall typed start)
   told start met.No tells = λ call only. tells call only.meets
   told start (met.Once first) tells = elim (cases_Bool (nat_lt start first)) [
-      | inl behind ↦ rw behind (record { meets = tells.meets; only = tells.only; behind = ltb-true start first behind })
-      | inr before ↦ rw before (λ call only. false≢true (sym before ∙ lt-ltb start first (subst (λ n. start < n) (tells.only call only.meets) only.behind)))
-    ]
+    | inl behind ↦ rw behind (record { meets = tells.meets; only = tells.only; behind = ltb-true start first behind })
+    | inr before ↦ rw before (λ call only. false≢true (sym before ∙ lt-ltb start first (subst (λ n. start < n) (tells.only call only.meets) only.behind)))
+  ]
   told start met.Often tells = λ call only. let one = only.only tells.one tells.meets in let other = only.only tells.other tells.also in omega (arith, tells.differ, one, other)
 
   pub only_tells : (start : ℕ) → MatchOption (only_call calls start) ((call : ℕ) → IsOnlyCall typed start call → ⊥) (IsOnlyCall typed start)
   only_tells start = elim (cases_lt start (length calls)) [
-      | inl within ↦ told start (slice_index_or calls start met.No) (table.tells start within)
-      | inr past ↦ rw (get_or_past calls start met.No past) (λ call only.
-          let i = meets_start 0 typed.code.instructions typed.frames start call rising only.meets in
-          let within : call < length calls = elim (cases_lt call (length calls)) [ | inl within ↦ within | inr out ↦ absurd (none_starts typed.code.instructions call (table.room.within call out) (rw i.1 refl)) ] in
-          omega (arith, within, only.behind))
-    ]
+    | inl within ↦ told start (slice_index_or calls start met.No) (table.tells start within)
+    | inr past ↦ rw (get_or_past calls start met.No past) (λ call only.
+        let i = meets_start 0 typed.code.instructions typed.frames start call rising only.meets in
+        let within : call < length calls = elim (cases_lt call (length calls)) [ inl within ↦ within | inr out ↦ absurd (none_starts typed.code.instructions call (table.room.within call out) (rw i.1 refl)) ] in
+        omega (arith, within, only.behind))
+  ]
 
   pub only_is : (start call : ℕ) → IsOnlyCall typed start call → only_call calls start ≡ Some call
   only_is start call only = go (only_call calls start) (only_tells start) where

@@ -1,5 +1,5 @@
 -- What is known of births while their code is walked.
-use Rattle.std.specs.Prelude.{◌≡◌, ◌≢◌, ◌⊎◌, ◌↔◌, ℕ, ◌+◌, ◌-◌, ◌<◌, ◌≤◌, ◌∷◌, [], List, length, slice_index, slice_index_or, Bool, false, Option, Some, None, nat_lt, if◌then◌else◌, IsSome}
+use Rattle.std.specs.Prelude.{◌≡◌, ◌⊎◌, ◌↔◌, ℕ, ◌+◌, ◌-◌, ◌<◌, ◌≤◌, ◌∷◌, [], List, length, slice_index, slice_index_or, Bool, false, Option, Some, None, nat_lt, if◌then◌else◌, IsSome}
 use Rattle.std.specs.List.{Contains, AllPairs}
 use Rattle.dj_instructions.specs.Instructions.{Instruction, Instructions}
 use Rattle.dj_frames.specs.Frames.{Frame}

@@ -6,7 +6,6 @@
 mod birth;
 mod calls;
 mod control;
-
 mod marks;
 mod reach;
 mod roles;
@@ -18,6 +17,6 @@ mod written;
 
 pub use birth::{Birth, births};
 pub use control::{Control, can_throw, control_of};
-pub use ways::{Edge, edges};
 pub use reach::reached;
 pub use starts::block_starts;
+pub use ways::{Edge, edges};

@@ -1,7 +1,5 @@
 use Rattle.std.proofs.Common.{refl}
 use Rattle.std.proofs.lemmas.Bool.{false≢true}
-use Rattle.dj_starts.specs.Marks.{MarksMore}
-use Rattle.dj_starts.specs.Walking.{IsNewIn}
 use Rattle.dj_starts.proofs.Bearing.{news_step, news_skip, news_end}
 use Rattle.dj_starts.proofs.birth.mark_news.Goals as goal
 use Rattle.dj_starts.proofs.birth.mark_news.Goals.{then-is_new, else-is_new}
