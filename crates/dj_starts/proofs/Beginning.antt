@@ -17,9 +17,9 @@ module _ (typed : Typed) (none one two all : List Bool) (room : IsRoom typed.cod
 
   marked_begins : (pc : ℕ) → IsMarked all pc → BeginsBlock typed pc
   marked_begins pc h = elim (asked.only pc h) [
-      | inl old ↦ absurd (unmarked pc old)
-      | inr new ↦ elim new [ | inl first ↦ entry first | inr more ↦ elim more [ | inl by ↦ table by | inr by ↦ code by ] ]
-    ]
+    | inl old ↦ absurd (unmarked pc old)
+    | inr new ↦ elim new [ inl first ↦ entry first | inr more ↦ elim more [ inl by ↦ table by | inr by ↦ code by ] ]
+  ]
 
   begins_marked : (pc : ℕ) → IsStart typed.code.instructions pc → BeginsBlock typed pc → IsMarked all pc
   begins_marked pc at (entry first) = asked.these pc (starts_within typed.code none room pc at) (inl first)
@@ -28,6 +28,6 @@ module _ (typed : Typed) (none one two all : List Bool) (room : IsRoom typed.cod
 
   pub block_exact : (seen : List Bool) (starts : List ℕ) → ((pc : ℕ) → IsStart typed.code.instructions pc → IsMarked seen pc ↔ Reaches typed.code pc) → ((pc : ℕ) → Contains starts pc ↔ IsBothMarked typed.code.instructions seen all pc) → (pc : ℕ) → Contains starts pc ↔ IsBlockStart typed pc
   block_exact seen starts reached both pc = (
-      λ h. let b = (both pc).0 h in record { at = b.at; reached = (reached pc b.at).0 b.one; begins = marked_begins pc b.other },
-      λ is. (both pc).1 record { at = is.at; one = (reached pc is.at).1 is.reached; other = begins_marked pc is.at is.begins },
-    )
+    λ h. let b = (both pc).0 h in record { at = b.at; reached = (reached pc b.at).0 b.one; begins = marked_begins pc b.other },
+    λ is. (both pc).1 record { at = is.at; one = (reached pc is.at).1 is.reached; other = begins_marked pc is.at is.begins },
+  )

@@ -1,5 +1,5 @@
 -- What is asked of instructions between two pcs, one instruction more.
-use Rattle.std.proofs.Common.{◌≡◌, ℕ, ◌+◌, ◌<◌, ◌≤◌, List, [], ◌∷◌, ◌++◌, refl, sym, subst, arith}
+use Rattle.std.proofs.Common.{ℕ, ◌+◌, ◌<◌, ◌≤◌, [], ◌∷◌, ◌++◌, arith}
 use Rattle.dj_instructions.specs.Instructions.{Instruction, Instructions, IsRisingFrom}
 use Rattle.dj_starts.specs.declared.roles.Role.{Role}
 use Rattle.dj_starts.specs.Births.{role_of, first_role, Between}
@@ -18,6 +18,9 @@ rises_behind least (x ∷ done) left rising = rises_behind (x.0 + 1) done left r
 pub rises_before : (least : ℕ) (done left : Instructions) → IsRisingFrom least (done ++ left) → IsRisingFrom least done
 rises_before least [] left rising = tt
 rises_before least (x ∷ done) left rising = (rising.0, rises_before (x.0 + 1) done left rising.1)
+
+no_less : (n : ℕ) → n ≤ n
+no_less n = omega arith
 
 module _ (Asked : ℕ → Role → Role → Role → Type 0) (start : ℕ) where
   -- nothing is asked of instructions behind the end
@@ -50,3 +53,10 @@ module _ (Asked : ℕ → Role → Role → Role → Type 0) (start : ℕ) where
   between_more least (x ∷ done) at rest before rising between here =
       let low = not_below (x.0 + 1) done (rises_before (x.0 + 1) done (at ∷ rest) rising.1) in
       (λ above below. between.0 above (omega (arith, low)), between_more (x.0 + 1) done at rest (role_of x.1) rising.1 between.1 here)
+
+  -- up to the next instruction nothing more is asked
+  pub between_gap : (least : ℕ) (done : Instructions) (at : ℕ × Instruction) (rest : Instructions) (before : Role) → IsRisingFrom least (done ++ at ∷ rest) → Between Asked start (behind_all least done) before (done ++ at ∷ rest) → Between Asked start at.0 before (done ++ at ∷ rest)
+  between_gap least [] at rest before rising between = between_past at.0 at.0 before (at ∷ rest) (no_less at.0, rising.1) (no_less at.0)
+  between_gap least (x ∷ done) at rest before rising between =
+      let low = not_below (x.0 + 1) done (rises_before (x.0 + 1) done (at ∷ rest) rising.1) in
+      (λ above below. between.0 above (omega (arith, low)), between_gap (x.0 + 1) done at rest (role_of x.1) rising.1 between.1)

@@ -1,11 +1,11 @@
 -- The calls that are met, one instruction after another.
-use Rattle.std.proofs.Common.{◌≡◌, ℕ, zero, suc, ◌+◌, ◌<◌, ◌≤◌, List, [], ◌∷◌, length, drop, get_or, map, sym, subst, ap, ◌∙◌, arith, add-one}
+use Rattle.std.proofs.Common.{◌≡◌, ℕ, zero, suc, ◌+◌, ◌<◌, ◌≤◌, List, [], ◌∷◌, length, drop, get_or, map, sym, subst}
 use Rattle.std.specs.Prelude.{slice_index_or}
 use Rattle.std.proofs.lemmas.List.{drop_all}
 use Rattle.dj_instructions.specs.declared.instruction.Instruction as declared
-use Rattle.dj_instructions.specs.Instructions.{Instruction, view_instruction, view_instructions, IsRising, IsRisingFrom}
+use Rattle.dj_instructions.specs.Instructions.{view_instruction, view_instructions, IsRising, IsRisingFrom}
 use Rattle.dj_frames.specs.declared.frame.Frame as code_frame
-use Rattle.dj_frames.specs.Frames.{Frame, view_frame}
+use Rattle.dj_frames.specs.Frames.{view_frame}
 use Rattle.dj_starts.specs.declared.calls.Met.{Met}
 use Rattle.dj_starts.specs.declared.calls.Met.TheVariants as met
 use Rattle.dj_starts.specs.Births.{Meets}

@@ -1,5 +1,5 @@
 -- Rising numbers, and the last taken away.
-use Rattle.std.proofs.Common.{◌≡◌, ℕ, zero, suc, ◌+◌, ◌-◌, ◌<◌, ◌≤◌, ◌⊎◌, ◌↔◌, Bool, true, false, List, [], ◌∷◌, ◌++◌, length, get_or, ◌∙◌, subst, inl, inr, arith}
+use Rattle.std.proofs.Common.{◌≡◌, ℕ, ◌-◌, ◌<◌, ◌≤◌, ◌⊎◌, ◌↔◌, Bool, false, List, [], ◌∷◌, ◌++◌, length, get_or, ◌∙◌, subst, inl, inr, arith}
 use Rattle.std.specs.Prelude.{IsTrue}
 use Rattle.std.specs.List.{Contains, AllPairs}
 use Rattle.std.proofs.lemmas.List.{length_push, get_or_append_left, get_or_default, get_or_push}
@@ -30,12 +30,12 @@ dropped_more low old now last found above so_far more only kept new = record {
   rising = rising_front now last so_far.rising;
   kept = λ number h. so_far.kept number (Contains-append_left now (last ∷ []) number h);
   cut = λ number h. elim (so_far.cut number h) [
-    | inl there ↦ elim (Contains-push_cases now last number there) [ | inl left ↦ inl left | inr same ↦ inr (subst (λ n. low ≤ n) same above) ]
+    | inl there ↦ elim (Contains-push_cases now last number there) [ inl left ↦ inl left | inr same ↦ inr (subst (λ n. low ≤ n) same above) ]
     | inr high ↦ inr high
   ];
-  was = λ yes. elim (only yes) [ | inl before ↦ so_far.was before | inr same ↦ subst (λ n. Contains old n) same (so_far.kept last (Contains-push now last)) ];
+  was = λ yes. elim (only yes) [ inl before ↦ so_far.was before | inr same ↦ subst (λ n. Contains old n) same (so_far.kept last (Contains-push now last)) ];
   sought = λ h. elim (so_far.sought h) [
-    | inl there ↦ elim (Contains-push_cases now last low there) [ | inl left ↦ inl left | inr same ↦ inr (new same) ]
+    | inl there ↦ elim (Contains-push_cases now last low there) [ inl left ↦ inl left | inr same ↦ inr (new same) ]
     | inr before ↦ inr (kept before)
   ];
 }
@@ -53,17 +53,19 @@ below_last now low number rising none h =
     elim (cases_lt number low) [
       | inl below ↦ below
       | inr above ↦ elim (cases_lt h.0 (length now - 1)) [
-          | inl before ↦ let less : get_or now h.0 0 < get_or now (length now - 1) 0 = rising h.0 (length now - 1) 0 before (omega (arith, h.1)) in absurd (none record { some = omega (arith, h.1); above = omega (arith, less, value) })
-          | inr last ↦ let same : h.0 ≡ length now - 1 = omega (arith, h.1) in absurd (none record { some = omega (arith, h.1); above = subst (λ n. low ≤ get_or now n 0) same (omega (arith, value)) })
-        ]
+        | inl before ↦ let less : get_or now h.0 0 < get_or now (length now - 1) 0 = rising h.0 (length now - 1) 0 before (omega (arith, h.1)) in absurd (none record { some = omega (arith, h.1); above = omega (arith, less, value) })
+        | inr last ↦ let same : h.0 ≡ length now - 1 = omega (arith, h.1) in absurd (none record { some = omega (arith, h.1); above = subst (λ n. low ≤ get_or now n 0) same (omega (arith, value)) })
+      ]
     ]
 
 pub dropped_all : (low : ℕ) (old now : List ℕ) (found : Bool) → IsDropped low old now found → (IsLastFrom now low → ⊥) → record { rising : AllPairs (λ x y. x < y) now; cut : IsCut old now low; found : IsTrue found ↔ Contains old low }
 dropped_all low old now found dropped none = record {
   rising = dropped.rising;
-  cut = record { left = λ number. (
+  cut = record {
+    left = λ number. (
       λ h. (dropped.kept number h, below_last now low number dropped.rising none h),
-      λ h. elim (dropped.cut number h.0) [ | inl there ↦ there | inr above ↦ absurd (omega (arith, h.1)) ],
-    ) };
-  found = (dropped.was, λ h. elim (dropped.sought h) [ | inl there ↦ absurd (omega (arith, below_last now low low dropped.rising none there)) | inr before ↦ before ]);
+      λ h. elim (dropped.cut number h.0) [ inl there ↦ there | inr above ↦ absurd (omega (arith, h.1)) ],
+    );
+  };
+  found = (dropped.was, λ h. elim (dropped.sought h) [ inl there ↦ absurd (omega (arith, below_last now low low dropped.rising none there)) | inr before ↦ before ]);
 }

@@ -22,19 +22,19 @@ none pc start = absurd (cc)
 -- ---- one instruction more
 
 start_push : (l : Listed) (x : ℕ × declared.Instruction) (pc : ℕ) → IsStart (view_instructions (l ++ x ∷ [])) pc → IsStart (view_instructions l) pc ⊎ (pc ≡ x.0)
-start_push [] x pc start = elim (eqb_tells x.0 pc) [ | inl same ↦ inr (sym same.1) | inr differ ↦ absurd (none pc (rw differ.0 at start)) ]
+start_push [] x pc start = elim (eqb_tells x.0 pc) [ inl same ↦ inr (sym same.1) | inr differ ↦ absurd (none pc (rw differ.0 at start)) ]
 start_push (y ∷ l) x pc start = elim (eqb_tells y.0 pc) [
-    | inl same ↦ inl (rw same.0 refl)
-    | inr differ ↦ elim (start_push l x pc (rw differ.0 at start)) [ | inl old ↦ inl (rw differ.0 old) | inr new ↦ inr new ]
-  ]
+  | inl same ↦ inl (rw same.0 refl)
+  | inr differ ↦ elim (start_push l x pc (rw differ.0 at start)) [ inl old ↦ inl (rw differ.0 old) | inr new ↦ inr new ]
+]
 
 start_old : (l : Listed) (x : ℕ × declared.Instruction) (pc : ℕ) → IsStart (view_instructions l) pc → IsStart (view_instructions (l ++ x ∷ [])) pc
 start_old [] x pc start = absurd (none pc start)
-start_old (y ∷ l) x pc start = elim (eqb_tells y.0 pc) [ | inl same ↦ rw same.0 refl | inr differ ↦ rw differ.0 (start_old l x pc (rw differ.0 at start)) ]
+start_old (y ∷ l) x pc start = elim (eqb_tells y.0 pc) [ inl same ↦ rw same.0 refl | inr differ ↦ rw differ.0 (start_old l x pc (rw differ.0 at start)) ]
 
 start_new : (l : Listed) (x : ℕ × declared.Instruction) → IsStart (view_instructions (l ++ x ∷ [])) x.0
-start_new [] x = elim (eqb_tells x.0 x.0) [ | inl same ↦ rw same.0 refl | inr differ ↦ absurd (differ.1 refl) ]
-start_new (y ∷ l) x = elim (eqb_tells y.0 x.0) [ | inl same ↦ rw same.0 refl | inr differ ↦ rw differ.0 (start_new l x) ]
+start_new [] x = elim (eqb_tells x.0 x.0) [ inl same ↦ rw same.0 refl | inr differ ↦ absurd (differ.1 refl) ]
+start_new (y ∷ l) x = elim (eqb_tells y.0 x.0) [ inl same ↦ rw same.0 refl | inr differ ↦ rw differ.0 (start_new l x) ]
 
 -- a later pc is above an earlier one
 pcs_above : (l : Listed) (least i j : ℕ) (d : ℕ × declared.Instruction) → IsRisingFrom least (view_instructions l) → i < j → j < length l → (get_or l i d).0 < (get_or l j d).0
@@ -67,12 +67,12 @@ module _ (all : Listed) (first second : List Bool) where
     pub found_skip : (IsMarked first x.0 → IsMarked second x.0 → ⊥) → IsFound all (i + 1) first second starts
     found_skip not_both = record {
       exact = λ pc. (
-          λ h. let both = (so_far.exact pc).0 h in record { at = rw taken (start_old (take i all) x pc both.at); one = both.one; other = both.other },
-          λ both. elim (start_push (take i all) x pc (rw taken at both.at)) [
-            | inl old ↦ (so_far.exact pc).1 record { at = old; one = both.one; other = both.other }
-            | inr new ↦ absurd (not_both (subst (λ n. IsMarked first n) new both.one) (subst (λ n. IsMarked second n) new both.other))
-          ],
-        );
+        λ h. let both = (so_far.exact pc).0 h in record { at = rw taken (start_old (take i all) x pc both.at); one = both.one; other = both.other },
+        λ both. elim (start_push (take i all) x pc (rw taken at both.at)) [
+          | inl old ↦ (so_far.exact pc).1 record { at = old; one = both.one; other = both.other }
+          | inr new ↦ absurd (not_both (subst (λ n. IsMarked first n) new both.one) (subst (λ n. IsMarked second n) new both.other))
+        ],
+      );
       low = λ place d above lt k e short. so_far.low place d (omega arith) lt k e short;
       pairs = so_far.pairs;
     }
@@ -81,15 +81,15 @@ module _ (all : Listed) (first second : List Bool) where
     pub found_push : IsMarked first x.0 → IsMarked second x.0 → IsFound all (i + 1) first second (starts ++ x.0 ∷ [])
     found_push one other = record {
       exact = λ pc. (
-          λ h. elim (Contains-push_cases starts x.0 pc h) [
-            | inl old ↦ let both = (so_far.exact pc).0 old in record { at = rw taken (start_old (take i all) x pc both.at); one = both.one; other = both.other }
-            | inr new ↦ subst (λ n. IsBothMarked (view_instructions (take (i + 1) all)) first second n) new record { at = rw taken (start_new (take i all) x); one = one; other = other }
-          ],
-          λ both. elim (start_push (take i all) x pc (rw taken at both.at)) [
-            | inl old ↦ Contains-append_left starts (x.0 ∷ []) pc ((so_far.exact pc).1 record { at = old; one = both.one; other = both.other })
-            | inr new ↦ subst (λ n. Contains (starts ++ x.0 ∷ []) n) (sym new) (Contains-push starts x.0)
-          ],
-        );
+        λ h. elim (Contains-push_cases starts x.0 pc h) [
+          | inl old ↦ let both = (so_far.exact pc).0 old in record { at = rw taken (start_old (take i all) x pc both.at); one = both.one; other = both.other }
+          | inr new ↦ subst (λ n. IsBothMarked (view_instructions (take (i + 1) all)) first second n) new record { at = rw taken (start_new (take i all) x); one = one; other = other }
+        ],
+        λ both. elim (start_push (take i all) x pc (rw taken at both.at)) [
+          | inl old ↦ Contains-append_left starts (x.0 ∷ []) pc ((so_far.exact pc).1 record { at = old; one = both.one; other = both.other })
+          | inr new ↦ subst (λ n. Contains (starts ++ x.0 ∷ []) n) (sym new) (Contains-push starts x.0)
+        ],
+      );
       low = λ place d above lt k e short.
           let here : (get_or all i d).0 < (get_or all place d).0 = pcs_above all 0 i place d rising (omega arith) lt in
           elim (cases_lt k (length starts)) [

@@ -11,4 +11,7 @@ pub mod Constructing
 pub mod Stepping
 pub mod Calling
 pub mod Walks
+pub mod WalkSteps
+pub mod WalkPlaces
+pub mod Bearing
 pub mod BetweenLemmas

@@ -1,5 +1,5 @@
 -- Marks of pcs, one call behind another.
-use Rattle.std.proofs.Common.{◌≡◌, ◌≢◌, ℕ, zero, suc, ◌<◌, ◌≤◌, ◌⊎◌, ◌+◌, Bool, true, false, List, [], ◌∷◌, ◌++◌, take, length, get_or, set, refl, sym, subst, inl, inr, arith}
+use Rattle.std.proofs.Common.{◌≡◌, ℕ, zero, suc, ◌<◌, ◌≤◌, ◌⊎◌, ◌+◌, Bool, true, false, List, [], ◌∷◌, ◌++◌, take, length, get_or, set, refl, sym, subst, inl, inr, arith}
 use Rattle.std.specs.List.{Contains}
 use Rattle.std.proofs.lemmas.List.{take_more, take_all}
 use Rattle.std.proofs.lemmas.List.Elements.{Contains-append_left, Contains-push, Contains-push_cases}
@@ -22,7 +22,7 @@ marked_only [] at pc h = inl h
 marked_only (m ∷ marks) zero zero h = inr refl
 marked_only (m ∷ marks) zero (suc pc) h = inl h
 marked_only (m ∷ marks) (suc at) zero h = inl h
-marked_only (m ∷ marks) (suc at) (suc pc) h = elim (marked_only marks at pc h) [ | inl old ↦ inl old | inr same ↦ inr (cc) ]
+marked_only (m ∷ marks) (suc at) (suc pc) h = elim (marked_only marks at pc h) [ inl old ↦ inl old | inr same ↦ inr (cc) ]
 
 pub unmarked_set : (marks : List Bool) (pc : ℕ) → pc < length marks → get_or marks pc false ≡ false → unmarked (set marks pc true) + 1 ≡ unmarked marks
 unmarked_set [] pc within new = absurd (omega arith)
@@ -53,8 +53,8 @@ pub both_more : (a b c : List Bool) (P Q : ℕ → Type 0) → MarksMore a b P �
 both_more a b c P Q one two = record {
   room = cc (one.room, two.room);
   kept = λ pc h. two.kept pc (one.kept pc h);
-  these = λ pc within asked. elim asked [ | inl p ↦ two.kept pc (one.these pc within p) | inr q ↦ two.these pc (omega (arith, one.room)) q ];
-  only = λ pc h. elim (two.only pc h) [ | inl old ↦ elim (one.only pc old) [ | inl older ↦ inl older | inr p ↦ inr (inl p) ] | inr q ↦ inr (inr q) ];
+  these = λ pc within asked. elim asked [ inl p ↦ two.kept pc (one.these pc within p) | inr q ↦ two.these pc (omega (arith, one.room)) q ];
+  only = λ pc h. elim (two.only pc h) [ inl old ↦ elim (one.only pc old) [ inl older ↦ inl older | inr p ↦ inr (inl p) ] | inr q ↦ inr (inr q) ];
 }
 
 -- the same pcs, otherwise said
@@ -63,7 +63,7 @@ said_more a b P Q there back more = record {
   room = more.room;
   kept = more.kept;
   these = λ pc within asked. more.these pc within (back pc asked);
-  only = λ pc h. elim (more.only pc h) [ | inl old ↦ inl old | inr p ↦ inr (there pc p) ];
+  only = λ pc h. elim (more.only pc h) [ inl old ↦ inl old | inr p ↦ inr (there pc p) ];
 }
 
 -- ---- lists of pcs, item by item
@@ -73,13 +73,13 @@ contains_none x h = absurd (omega (arith, h.1))
 
 pub contains_first : {A : Type 0} (xs : List A) (x y : A) (i : ℕ) (d : A) → i < length xs → Contains (take (i + 1) xs) y → Contains (take i xs) y ⊎ (y ≡ get_or xs i d)
 contains_first xs x y i d within h =
-    elim (Contains-push_cases (take i xs) (get_or xs i d) y (rw (take_more xs i d within) at h)) [ | inl old ↦ inl old | inr same ↦ inr (sym same) ]
+    elim (Contains-push_cases (take i xs) (get_or xs i d) y (rw (take_more xs i d within) at h)) [ inl old ↦ inl old | inr same ↦ inr (sym same) ]
 
 pub contains_more : {A : Type 0} (xs : List A) (y : A) (i : ℕ) (d : A) → i < length xs → Contains (take i xs) y ⊎ (y ≡ get_or xs i d) → Contains (take (i + 1) xs) y
 contains_more xs y i d within asked = rw (take_more xs i d within) elim asked [
-    | inl old ↦ Contains-append_left (take i xs) (get_or xs i d ∷ []) y old
-    | inr same ↦ subst (λ z. Contains (take i xs ++ get_or xs i d ∷ []) z) (sym same) (Contains-push (take i xs) (get_or xs i d))
-  ]
+  | inl old ↦ Contains-append_left (take i xs) (get_or xs i d ∷ []) y old
+  | inr same ↦ subst (λ z. Contains (take i xs ++ get_or xs i d ∷ []) z) (sym same) (Contains-push (take i xs) (get_or xs i d))
+]
 
 pub contains_all : {A : Type 0} (xs : List A) (y : A) (i : ℕ) → length xs ≤ i → Contains (take i xs) y → Contains xs y
 contains_all xs y i past h = rw (take_all i xs past) at h

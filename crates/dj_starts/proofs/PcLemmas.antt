@@ -1,5 +1,5 @@
 -- Instructions by their pcs: those from one on, and pcs behind the last.
-use Rattle.std.proofs.Common.{◌≡◌, ◌≢◌, ℕ, zero, suc, ◌+◌, ◌<◌, ◌≤◌, ◌==◌, Bool, true, false, List, [], ◌∷◌, length, drop, refl, arith, ne_eqb}
+use Rattle.std.proofs.Common.{◌≡◌, ℕ, zero, suc, ◌+◌, ◌<◌, ◌≤◌, ◌==◌, Bool, true, false, List, [], ◌∷◌, length, drop, refl, arith, ne_eqb}
 use Rattle.std.specs.Prelude.{slice_index_or, if◌then◌else◌, IsSome, Some}
 use Rattle.std.proofs.lemmas.Bool.Decides.{nat_tests}
 use Rattle.dj_instructions.specs.declared.instruction.Instruction as declared

@@ -1,11 +1,11 @@
 -- A set of pcs that is closed, and whose pcs are reached, is what is reached.
-use Rattle.std.proofs.Common.{◌≡◌, ℕ, ◌<◌, ◌≤◌, Bool, List, [], ◌∷◌, length, sym, subst, arith, inl, inr}
+use Rattle.std.proofs.Common.{◌≡◌, ℕ, ◌<◌, Bool, List, length, sym, subst, inl, inr}
 use Rattle.std.specs.List.{Contains}
 use Rattle.std.proofs.lemmas.Bool.{cases_lt}
 use Rattle.dj_code.specs.MethodCode.{Code}
 use Rattle.dj_code.specs.Targets.{IsStart}
 use Rattle.dj_starts.specs.declared.ways.Edge.{Edge}
-use Rattle.dj_starts.specs.Edges.{Reaches, start, along, edges, first_edges, from_pc}
+use Rattle.dj_starts.specs.Edges.{Reaches, start, along, edges, first_edges}
 use Rattle.dj_starts.specs.Marks.{IsMarked, IsRoom, IsTarget, GoesOn}
 use Rattle.dj_starts.proofs.Marking.{contains_none}
 use Rattle.dj_starts.proofs.PcLemmas.{none_starts}
@@ -14,9 +14,9 @@ module _ (code : Code) (marks : List Bool) (room : IsRoom code.instructions (len
   -- ways lead from where there is room
   from_within : (pc : ℕ) (way : Edge) → Contains (edges code pc) way → pc < length marks
   from_within pc way one = elim (cases_lt pc (length marks)) [
-      | inl within ↦ within
-      | inr past ↦ absurd (contains_none way (subst (λ instructions. Contains (first_edges code.handlers instructions) way) (room.within pc past) one))
-    ]
+    | inl within ↦ within
+    | inr past ↦ absurd (contains_none way (subst (λ instructions. Contains (first_edges code.handlers instructions) way) (room.within pc past) one))
+  ]
 
   -- what is reached is marked, where there is room
   pub all_marked : (0 < length marks → IsMarked marks 0) → ((pc : ℕ) → IsMarked marks pc → GoesOn code marks pc) → (pc : ℕ) → Reaches code pc → pc < length marks → IsMarked marks pc
@@ -25,7 +25,7 @@ module _ (code : Code) (marks : List Bool) (room : IsRoom code.instructions (len
 
   -- where an instruction begins, there is room
   pub starts_within : (pc : ℕ) → IsStart code.instructions pc → pc < length marks
-  starts_within pc at = elim (cases_lt pc (length marks)) [ | inl within ↦ within | inr past ↦ absurd (none_starts code.instructions pc (room.within pc past) at) ]
+  starts_within pc at = elim (cases_lt pc (length marks)) [ inl within ↦ within | inr past ↦ absurd (none_starts code.instructions pc (room.within pc past) at) ]
 
 pub start_at : (code : Code) (pc : ℕ) → pc ≡ 0 → Reaches code pc
 start_at code pc same = subst (λ n. Reaches code n) (sym same) start

@@ -1,14 +1,11 @@
 -- One step of the walk over code.
-use Rattle.std.proofs.Common.{◌≡◌, ℕ, ◌<◌, ◌⊎◌, ◌↔◌, Bool, true, false, List, [], ◌∷◌, ◌++◌, Option, Some, None, length, refl, sym, ◌∙◌, subst, inl, inr, arith}
-use Rattle.std.specs.Prelude.{IsSome}
+use Rattle.std.proofs.Common.{◌≡◌, ℕ, ◌<◌, ◌⊎◌, ◌↔◌, Bool, false, List, Option, Some, None, refl, sym, ◌∙◌, subst, inl, inr}
 use Rattle.std.specs.List.{Contains, AllPairs}
 use Rattle.std.proofs.lemmas.Option.{same_Some}
-use Rattle.std.proofs.lemmas.List.Quantifiers.{all_pairs_push}
-use Rattle.std.proofs.lemmas.List.Elements.{Contains-append_left, Contains-push, Contains-push_cases, Contains-get_or}
 use Rattle.dj_starts.specs.declared.roles.Role.{Role}
 use Rattle.dj_starts.specs.declared.roles.Role.TheVariants as role
 use Rattle.dj_starts.specs.declared.walk.Walk.{Walk}
-use Rattle.dj_starts.specs.Marks.{IsMarked, MarksMore}
+use Rattle.dj_starts.specs.Marks.{MarksMore}
 use Rattle.dj_starts.specs.Walking.{IsCut, IsEnd, IsOver, IsStep, GoesBy, Begins, barred_from}
 use Rattle.dj_starts.proofs.Marking.{none_more, said_more}
 
@@ -72,15 +69,15 @@ step_is fenced pc here behind ended old stopped over unborn stops passes rising 
   before = refl;
   rising = rising;
   unborn = λ start. (
-      λ h. elim ((begun start).0 h) [
-        | inl was ↦ let by = (passes.unborn start).0 was in let still = (stops start).0 by.0 in inl (still.0, still.1, by.1)
-        | inr new ↦ inr new
-      ],
-      λ h. elim h [
-        | inl was ↦ (begun start).1 (inl ((passes.unborn start).1 ((stops start).1 (was.0, was.1), was.2)))
-        | inr new ↦ (begun start).1 (inr new)
-      ],
-    );
+    λ h. elim ((begun start).0 h) [
+      | inl was ↦ let by = (passes.unborn start).0 was in let still = (stops start).0 by.0 in inl (still.0, still.1, by.1)
+      | inr new ↦ inr new
+    ],
+    λ h. elim h [
+      | inl was ↦ (begun start).1 (inl ((passes.unborn start).1 ((stops start).1 (was.0, was.1), was.2)))
+      | inr new ↦ (begun start).1 (inr new)
+    ],
+  );
   written = said_more old.written over.written (λ start. (here ≡ role.Silent) × (ended ≡ Some start) × Contains stopped start) (λ start. (here ≡ role.Silent) × (ended ≡ Some start) × (fenced ≡ false) × Contains old.unborn start)
       (λ start asked. let still = (stops start).0 asked.2 in (asked.0, asked.1, still.1, still.0))
       (λ start asked. (asked.0, asked.1, (stops start).1 (asked.3, asked.2))) passes.written;

@@ -1,5 +1,5 @@
 -- Where control goes from an instruction, and which instructions it reaches (JVMS 2.10, 2.11.7).
-use Rattle.std.specs.Prelude.{◌≡◌, ℕ, List, [], ◌∷◌, ◌++◌, map, Bool, true, false, ◌==◌, ◌&&◌, nat_le, nat_lt, if◌then◌else◌, is_none}
+use Rattle.std.specs.Prelude.{ℕ, List, [], ◌∷◌, ◌++◌, map, Bool, true, false, ◌==◌, ◌&&◌, nat_le, nat_lt, if◌then◌else◌, is_none}
 use Rattle.std.specs.List.{Contains}
 use Rattle.dj_instructions.specs.Instructions.{Instruction, Instructions}
 use Rattle.dj_code.specs.declared.method_code.Handler.{Handler}

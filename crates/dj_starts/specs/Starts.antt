@@ -1,5 +1,5 @@
 -- Where the blocks of code start (JVMS 2.10, 2.11.7, 4.10.1.9).
-use Rattle.std.specs.Prelude.{◌≡◌, ◌≢◌, ◌⊎◌, ℕ, ◌+◌, ◌-◌, List, [], ◌∷◌, drop, length, Bool, true, false, ◌==◌, ◌&&◌, ◌||◌, if◌then◌else◌, slice_index_or, IsTrue}
+use Rattle.std.specs.Prelude.{◌≡◌, ◌≢◌, ◌⊎◌, ℕ, ◌+◌, ◌-◌, List, [], ◌∷◌, drop, length, Bool, ◌==◌, ◌&&◌, ◌||◌, if◌then◌else◌, slice_index_or, IsTrue}
 use Rattle.std.specs.List.{Contains, list_any}
 use Rattle.dj_instructions.specs.declared.kinds.Kind.{Kind}
 use Rattle.dj_instructions.specs.Instructions.{Instruction, Instructions, Store}

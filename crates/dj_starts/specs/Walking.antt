@@ -1,8 +1,9 @@
 -- What is known of births while their code is walked.
-use Rattle.std.specs.Prelude.{◌≡◌, ◌≢◌, ◌⊎◌, ◌↔◌, ℕ, ◌+◌, ◌-◌, ◌<◌, ◌≤◌, ◌∷◌, [], List, length, slice_index, slice_index_or, Bool, false, Option, Some, None, nat_lt, if◌then◌else◌, IsSome}
+use Rattle.std.specs.Prelude.{◌≡◌, ◌⊎◌, ◌↔◌, ℕ, ◌+◌, ◌-◌, ◌<◌, ◌≤◌, ◌∷◌, [], List, length, slice_index, slice_index_or, Bool, false, Option, Some, None, nat_lt, if◌then◌else◌, IsSome}
 use Rattle.std.specs.List.{Contains, AllPairs}
 use Rattle.dj_instructions.specs.Instructions.{Instruction, Instructions}
 use Rattle.dj_frames.specs.Frames.{Frame}
+use Rattle.dj_frames.specs.Reading.{IsNew}
 use Rattle.dj_frames.specs.StackMap.{IsNewAt}
 use Rattle.dj_code.specs.MethodCode.{Code, Typed}
 use Rattle.dj_code.specs.Targets.{IsStart}
@@ -200,11 +201,14 @@ abbrev pub end_of : ℕ → Option ℕ → ℕ
 end_of start None = start
 end_of start (Some call) = call
 
--- the birth of the object of a `new`, by the table of calls and the marks
-pub record IsListed (instructions : Instructions) (calls : List Met) (marks : List Bool) (birth : Birth) : Type 0 where
-  pub new : IsNewAt instructions birth.start
-  pub end : birth.end ≡ end_of birth.start (only_call calls birth.start)
-  pub written : birth.written ≡ slice_index_or marks birth.start false
+-- the birth of the object of a `new`, by the table of calls and the marks of those that can be written
+abbrev pub birth_of : List Met → List Bool → ℕ → Birth
+birth_of calls written start = record { start = start; end = end_of start (only_call calls start); written = slice_index_or written start false }
+
+-- one of these instructions is a `new` at the pc
+abbrev pub IsNewIn : Instructions → ℕ → Type 0
+IsNewIn [] pc = ⊥
+IsNewIn (at ∷ rest) pc = ((pc ≡ at.0) × IsNew at.1) ⊎ IsNewIn rest pc
 
 -- the marks are those of the pcs of instructions that are fenced
 pub record IsFences (code : Code) (marks : List Bool) : Type 0 where

@@ -1,16 +1,18 @@
 //! Births: the code from a `new` to the constructor call of its object (JVMS 2.9, 4.10.1.9, 6.5 new).
 
-ghost use Rattle.std.specs.Prelude.{◌≡◌, ◌<◌, ◌↔◌, false, slice_index_or, IfOk, IsTrue};
+ghost use Rattle.std.specs.Prelude.{◌≡◌, ◌<◌, ◌↔◌, ℕ, map, IfOk, IsTrue};
 ghost use Rattle.std.specs.List.{AllPairs, Contains};
 ghost use Rattle.dj_instructions.specs.Instructions.{view_instruction, view_instructions, IsRising};
-ghost use Rattle.dj_frames.specs.Frames.{view_frame};
 ghost use Rattle.dj_code.specs.MethodCode.{view_typed};
 ghost use Rattle.dj_frames.specs.Reading.{IsNew};
+ghost use Rattle.dj_frames.specs.StackMap.{IsNewAt};
 ghost use Rattle.dj_starts.specs.Births.{IsBirth};
-ghost use Rattle.dj_starts.specs.Walking.{IsListed, end_of, only_call};
+ghost use Rattle.dj_starts.specs.Marks.{MarksMore};
+ghost use Rattle.dj_starts.specs.Walking.{IsNewIn, birth_of};
 
 use crate::calls::{Met, calls_met, only_call};
-use crate::marks::is_marked;
+use crate::marks::{is_marked, mark, no_marks};
+use crate::starts::both_marked;
 use crate::written::written_births;
 use dj_code::{Instruction, Typed};
 use dj_names::Items;
@@ -27,7 +29,7 @@ pub struct Birth {
 
 /// The birth of the object of a `new` at a pc.
 fn birth_at(calls: &[Met], written: &[bool], start: u32) -> Birth
-    ensures birth { result ≡ record { start = start; end = end_of start (only_call calls.now start); written = slice_index_or written.now start false } }
+    ensures birth { result ≡ birth_of calls.now written.now start }
 {
     let end = match only_call(calls, start) {
         Some(call) => call,
@@ -47,22 +49,41 @@ fn is_new(instruction: &Instruction) -> bool
     matches!(instruction, Instruction::New(_))
 }
 
-/// The births of objects, by the pcs of their `new`.
-fn listed(
+/// Marks the pcs of `new`.
+fn mark_news(instructions: &[(u32, Instruction)], marks: &mut Items<bool>)
+    ensures more { MarksMore marks.old marks.new (IsNewIn (view_instructions instructions.now)) }
+{
+    for at in instructions {
+        if is_new(&at.1) {
+            mark(at.0, marks);
+        }
+    }
+}
+
+/// The pcs of `new`, in rising order.
+fn news(alloc: Global, instructions: &[(u32, Instruction)]) -> Result<Items<u32>, AllocError>
+    requires rising { IsRising (view_instructions instructions.now) }
+    ensures exact { IfOk result (λ news. (pc : ℕ) → Contains news pc ↔ IsNewAt (view_instructions instructions.now) pc) }
+    ensures rising { IfOk result (AllPairs (λ x y. x < y)) }
+{
+    let mut marks = no_marks(alloc, instructions)?;
+    mark_news(instructions, &mut marks);
+    let news = both_marked(alloc, instructions, marks.as_slice(), marks.as_slice())?;
+    Ok(news)
+}
+
+/// The births of the objects of `new` at these pcs.
+fn births_at(
     alloc: Global,
-    instructions: &[(u32, Instruction)],
+    news: &[u32],
     calls: &[Met],
     written: &[bool],
 ) -> Result<Items<Birth>, AllocError>
-    requires rising { IsRising (view_instructions instructions.now) }
-    ensures exact { IfOk result (λ births. (birth : Birth) → Contains births birth ↔ IsListed (view_instructions instructions.now) calls.now written.now birth) }
-    ensures rising { IfOk result (AllPairs (λ x y. x.start < y.start)) }
+    ensures births { IfOk result (λ births. births ≡ map (birth_of calls.now written.now) news.now) }
 {
     let mut births = Items::new(alloc);
-    for at in instructions {
-        if is_new(&at.1) {
-            births.push(birth_at(calls, written, at.0))?;
-        }
+    for start in news {
+        births.push(birth_at(calls, written, *start))?;
     }
     Ok(births)
 }
@@ -76,6 +97,7 @@ pub fn births(alloc: Global, typed: &Typed) -> Result<Items<Birth>, AllocError>
     let instructions = typed.code.instructions.as_slice();
     let calls = calls_met(alloc, instructions, typed.frames.as_slice())?;
     let written = written_births(alloc, typed, calls.as_slice())?;
-    let births = listed(alloc, instructions, calls.as_slice(), written.as_slice())?;
+    let news = news(alloc, instructions)?;
+    let births = births_at(alloc, news.as_slice(), calls.as_slice(), written.as_slice())?;
     Ok(births)
 }

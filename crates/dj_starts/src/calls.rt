@@ -142,13 +142,7 @@ pub fn only_call(calls: &[Met], start: u32) -> Option<u32>
     ensures call { result ≡ spec_walk.only_call calls.now start }
 {
     match calls.get(start as usize) {
-        Some(Met::Once(call)) => {
-            if start < *call {
-                Some(*call)
-            } else {
-                None
-            }
-        }
+        Some(Met::Once(call)) => { if start < *call { Some(*call) } else { None } }
         Some(Met::No | Met::Often) | None => None,
     }
 }

@@ -96,9 +96,8 @@ pub fn control_of(instruction: &Instruction) -> Control
         | Instruction::IfInts(_, _)
         | Instruction::IfRefs(_, _)
         | Instruction::IfNull(_, _) => Control::Branch,
-        Instruction::Goto(_)
-        | Instruction::TableSwitch { .. }
-        | Instruction::LookupSwitch { .. } => Control::Jump,
+        Instruction::Goto(_) | Instruction::TableSwitch { .. } | Instruction::LookupSwitch { .. } =>
+            Control::Jump,
         Instruction::Return(_) => Control::Return,
         Instruction::Throw => Control::Throw,
         Instruction::MonitorEnter => Control::Enter,
@@ -112,11 +111,8 @@ impl Control {
         ensures falls { result ≡ falls_through self }
     {
         match self {
-            Control::On
-            | Control::OnOrThrown
-            | Control::Branch
-            | Control::Enter
-            | Control::Exit => true,
+            Control::On | Control::OnOrThrown | Control::Branch | Control::Enter | Control::Exit =>
+                true,
             Control::Jump | Control::Return | Control::Throw => false,
         }
     }
@@ -127,11 +123,8 @@ impl Control {
     {
         match self {
             Control::OnOrThrown | Control::Throw | Control::Enter => true,
-            Control::On
-            | Control::Branch
-            | Control::Jump
-            | Control::Return
-            | Control::Exit => false,
+            Control::On | Control::Branch | Control::Jump | Control::Return | Control::Exit =>
+                false,
         }
     }
 

@@ -1,12 +1,11 @@
 //! Where control goes in typed code, where blocks start, and the births of objects (JVMS 2.10, 2.11.7, 4.10.1.9).
 //! It stands on `dj_code` for code and its frames, on `dj_instructions` for instructions, and on `dj_names` for names.
-//! The layers above use `edges`, which answers the ways from an instruction, `reached` and `block_starts`, which are exact, and `can_throw`.
+//! The layers above use `edges`, `reached`, `block_starts` and `births`, whose contracts are exact, and `can_throw`.
 #![tactic(auto)]
 
 mod birth;
 mod calls;
 mod control;
-
 mod marks;
 mod reach;
 mod roles;
@@ -18,6 +17,6 @@ mod written;
 
 pub use birth::{Birth, births};
 pub use control::{Control, can_throw, control_of};
-pub use ways::{Edge, edges};
 pub use reach::reached;
 pub use starts::block_starts;
+pub use ways::{Edge, edges};

@@ -7,8 +7,8 @@ ghost use Rattle.dj_code.specs.Targets.{IsStart};
 ghost use Rattle.dj_starts.specs.Edges.{Reaches};
 ghost use Rattle.dj_starts.specs.Marks.{IsMarked, IsTarget, Visits};
 
-use crate::ways::{Edge, edges};
 use crate::marks::no_marks;
+use crate::ways::{Edge, edges};
 use dj_code::Code;
 use dj_names::Items;
 use std::alloc::{AllocError, Global};

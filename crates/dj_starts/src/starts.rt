@@ -11,10 +11,10 @@ ghost use Rattle.dj_starts.specs.Starts.{TableAsks, EndsBlock, BeginsBehind, Cod
 ghost use Rattle.dj_starts.specs.Marks.{IsMarked, MarksMore, IsBothMarked};
 
 use crate::control::control_of;
-use crate::ways::{covers, push_targets};
 use crate::marks::{is_marked, mark, mark_all, no_marks};
 use crate::reach::reached;
 use crate::stores::changes_first;
+use crate::ways::{covers, push_targets};
 use dj_code::{Frame, Handler, Instruction, Typed};
 use dj_names::Items;
 use std::alloc::{AllocError, Global};
@@ -109,7 +109,7 @@ fn is_both_marked(seen: &[bool], begins: &[bool], pc: u32) -> bool
 }
 
 /// The pcs of instructions that are marked in both lists.
-fn both_marked(
+pub fn both_marked(
     alloc: Global,
     instructions: &[(u32, Instruction)],
     seen: &[bool],
@@ -141,7 +141,13 @@ pub fn block_starts(alloc: Global, typed: &Typed) -> Result<Items<u32>, AllocErr
     let mut begins = no_marks(alloc, instructions)?;
     mark(0, &mut begins);
     mark_table(handlers, &mut begins);
-    mark_code(alloc, handlers, instructions, typed.frames.as_slice(), &mut begins)?;
+    mark_code(
+        alloc,
+        handlers,
+        instructions,
+        typed.frames.as_slice(),
+        &mut begins,
+    )?;
     let starts = both_marked(alloc, instructions, seen.as_slice(), begins.as_slice())?;
     Ok(starts)
 }

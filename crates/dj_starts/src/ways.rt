@@ -61,10 +61,7 @@ fn push_all(more: &[u32], targets: &mut Items<u32>) -> Result<(), AllocError>
 }
 
 /// Puts the pcs that an instruction may jump to behind others.
-pub fn push_targets(
-    instruction: &Instruction,
-    targets: &mut Items<u32>,
-) -> Result<(), AllocError>
+pub fn push_targets(instruction: &Instruction, targets: &mut Items<u32>) -> Result<(), AllocError>
     ensures pushed { OnOk result (targets.new ≡ targets.old ++ targets_of (view_instruction instruction.now)) }
 {
     match instruction {
@@ -168,11 +165,7 @@ pub fn covers(handler: &Handler, pc: u32) -> bool
 }
 
 /// Puts the ways to the handlers around a pc behind others.
-fn push_caught(
-    handlers: &[Handler],
-    pc: u32,
-    edges: &mut Items<Edge>,
-) -> Result<(), AllocError>
+fn push_caught(handlers: &[Handler], pc: u32, edges: &mut Items<Edge>) -> Result<(), AllocError>
     ensures pushed { OnOk result (edges.new ≡ edges.old ++ caught_edges handlers.now pc) }
 {
     let mut left = handlers;

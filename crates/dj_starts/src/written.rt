@@ -5,7 +5,7 @@ ghost use Rattle.dj_instructions.specs.Instructions.{view_instructions, IsRising
 ghost use Rattle.dj_frames.specs.Frames.{view_frame, view_frames};
 ghost use Rattle.dj_frames.specs.StackMap.{IsNewAt};
 ghost use Rattle.dj_code.specs.MethodCode.{view_code, view_typed};
-ghost use Rattle.dj_starts.specs.Births.{IsOnlyCall, IsWritten, IsGiven, IsBound};
+ghost use Rattle.dj_starts.specs.Births.{IsWritten, IsGiven, IsBound};
 ghost use Rattle.dj_starts.specs.Marks.{IsMarked, MarksMore};
 ghost use Rattle.dj_starts.specs.Walking.{IsTable, IsFences, IsWalked};
 
@@ -68,7 +68,7 @@ pub fn written_births(
 ) -> Result<Items<bool>, AllocError>
     requires rising { IsRising (view_instructions typed.now.code.instructions) }
     requires table { IsTable (view_instructions typed.now.code.instructions) (map view_frame typed.now.frames) calls.now }
-    ensures exact { IfOk result (λ written. (start call : ℕ) → IsNewAt (view_instructions typed.now.code.instructions) start → (IsMarked written start × IsOnlyCall (view_typed typed.now) start call) ↔ IsWritten (view_typed typed.now) start call) }
+    ensures exact { IfOk result (λ written. (start : ℕ) → IsNewAt (view_instructions typed.now.code.instructions) start → IsMarked written start ↔ ((call : ℕ) × IsWritten (view_typed typed.now) start call)) }
 {
     let instructions = typed.code.instructions.as_slice();
     let fences = fences(alloc, &typed.code)?;

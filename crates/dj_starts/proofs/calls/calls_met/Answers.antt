@@ -1,6 +1,5 @@
-use Rattle.std.proofs.Common.{◌+◌, length, drop, map, sym, subst, arith, refl}
+use Rattle.std.proofs.Common.{sym, subst, arith}
 use Rattle.dj_instructions.specs.Instructions.{view_instructions}
-use Rattle.dj_frames.specs.Frames.{view_frame}
 use Rattle.dj_starts.specs.Marks.{IsRoom}
 use Rattle.dj_starts.proofs.Calling.{calls_none, calls_step, calls_all}
 use Rattle.dj_starts.proofs.calls.calls_met.Goals as goal

@@ -1,4 +1,4 @@
-use Rattle.std.proofs.Common.{arith, length}
+use Rattle.std.proofs.Common.{arith}
 use Rattle.std.proofs.lemmas.List.{length_push}
 use Rattle.dj_starts.specs.declared.calls.Met.TheVariants.{No}
 use Rattle.dj_starts.proofs.Constructing.{none_push}

@@ -1,4 +1,4 @@
-use Rattle.std.proofs.Common.{ℕ, ◌+◌, ◌≡◌, [], take, get_or, arith}
+use Rattle.std.proofs.Common.{◌+◌, ◌≡◌, [], take, get_or}
 use Rattle.std.specs.List.{Contains}
 use Rattle.dj_starts.proofs.Marking.{none_more, both_more, said_more, contains_none, contains_first, contains_more, contains_all, contained_all}
 use Rattle.dj_starts.proofs.marks.mark_all.Goals as goal

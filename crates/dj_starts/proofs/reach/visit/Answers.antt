@@ -1,4 +1,4 @@
-use Rattle.std.proofs.Common.{◌≡◌, length, false, get_or, arith, ap, ◌∙◌}
+use Rattle.std.proofs.Common.{◌≡◌, false, get_or, arith}
 use Rattle.std.proofs.lemmas.List.{length-set}
 use Rattle.dj_starts.proofs.Visiting.{visit_new}
 use Rattle.dj_starts.proofs.reach.visit.Goals as goal

@@ -1,4 +1,4 @@
-use Rattle.std.proofs.Common.{ℕ, ◌+◌, ◌≡◌, ◌⊎◌, false, [], take, get_or, arith, inl, inr, refl}
+use Rattle.std.proofs.Common.{◌+◌, ◌≡◌, false, [], take, get_or, inl, inr, refl}
 use Rattle.dj_starts.specs.declared.ways.Edge.{Edge}
 use Rattle.dj_starts.specs.Marks.{IsTarget}
 use Rattle.dj_starts.proofs.Marking.{contains_none, contains_first, contains_more, contains_all, contained_all}

@@ -1,7 +1,3 @@
-use Rattle.std.proofs.Common.{Bool, List, [], drop}
-use Rattle.std.proofs.lemmas.List.{drop_all}
-use Rattle.dj_starts.specs.Starts.{TableAsks}
-use Rattle.dj_starts.proofs.Marking.{none_more}
 use Rattle.dj_starts.proofs.Asking.{table_step, table_end}
 use Rattle.dj_starts.proofs.starts.mark_table.Goals as goal
 

@@ -2,7 +2,7 @@ use Rattle.std.proofs.Common.{◌≡◌, ◌-◌, length, ◌∙◌, ap, sym}
 use Rattle.std.proofs.lemmas.List.{length-map}
 use Rattle.std.specs.Prelude.{slice_index_or}
 use Rattle.dj_frames.specs.Frames.{Top, view_tag, view_tags, view_frame}
-use Rattle.dj_starts.specs.Starts.{top_of, ChangesTo}
+use Rattle.dj_starts.specs.Starts.{top_of}
 use Rattle.dj_starts.proofs.Tags.{no_tag}
 use Rattle.dj_starts.proofs.stores.changes_local.Goals as goal
 

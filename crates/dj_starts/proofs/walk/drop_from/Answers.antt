@@ -1,4 +1,4 @@
-use Rattle.std.proofs.Common.{◌≤◌, ◌≡◌, ◌++◌, ◌∷◌, [], true, length, refl, inl, inr, arith, ap}
+use Rattle.std.proofs.Common.{true, length, refl, inl, inr, arith, ap}
 use Rattle.std.proofs.lemmas.Bool.{false≢true}
 use Rattle.dj_starts.specs.Walking.{IsLastFrom}
 use Rattle.dj_starts.proofs.Dropping.{dropped_none, dropped_more, dropped_all, last_above}

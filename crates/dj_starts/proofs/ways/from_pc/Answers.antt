@@ -1,4 +1,4 @@
-use Rattle.std.proofs.Common.{length, drop, arith, sym, ◌∙◌}
+use Rattle.std.proofs.Common.{length, arith, sym}
 use Rattle.std.proofs.lemmas.List.{take_rest, drop_all}
 use Rattle.dj_instructions.specs.declared.instruction.Instruction.TheVariants as instruction
 use Rattle.dj_starts.proofs.PcLemmas.{from_place, from_no_place}
