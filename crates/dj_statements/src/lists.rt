@@ -82,6 +82,20 @@ pub fn labels_of(alloc: Global, reading: Reading) -> Result<Items<u32>, AllocErr
     }
 }
 
+/// Takes away how far an expression is read.
+fn take_reading(reading: &mut Reading) -> Reading
+    ensures taken { result ≡ reading.old }
+{
+    mem::replace(reading, Reading::Lost)
+}
+
+/// Puts how far an expression is read in the place of how far it was.
+fn put_reading(reading: &mut Reading, next: Reading)
+    ensures put { reading.new ≡ next }
+{
+    drop(mem::replace(reading, next));
+}
+
 impl Place {
     /// How far the expression is read.
     pub fn into_reading(self) -> Reading
@@ -167,12 +181,26 @@ impl Place {
     }
 
     /// Nothing is read.
-    pub fn lost(alloc: Global) -> Place {
+    fn lost(alloc: Global) -> Place {
         Place {
             clause: Clause::Simple,
             labels: Items::new(alloc),
             reading: Reading::Lost,
         }
+    }
+
+    /// Takes all away that is read.
+    pub fn take(&mut self, alloc: Global) -> Place
+        ensures taken { result ≡ self.old }
+    {
+        mem::replace(self, Place::lost(alloc))
+    }
+
+    /// Puts what is read in the place of what was.
+    pub fn put(&mut self, next: Place)
+        ensures put { self.new ≡ next }
+    {
+        drop(mem::replace(self, next));
     }
 
     /// A word of an expression.
@@ -184,9 +212,9 @@ impl Place {
     ) -> Result<(), AllocError>
         ensures passed { OnOk result (view_place self.new ≡ (view_clause self.old.clause, reverse self.old.labels, read_word (view_reading self.old.reading) word.now)) }
     {
-        let before = mem::replace(&mut self.reading, Reading::Lost);
-        let reading = before.read_word(alloc, names, word)?;
-        self.reading = reading;
+        let before = take_reading(&mut self.reading);
+        let next = before.read_word(alloc, names, word)?;
+        put_reading(&mut self.reading, next);
         Ok(())
     }
 

@@ -14,7 +14,6 @@ use dj_names::Items;
 use dj_syntax::Stm;
 use dj_tokens::{KnownNames, Reader, Token, is_word, token_of};
 use std::alloc::{AllocError, Global};
-use std::mem;
 
 /// The statements up to the brace that ends a body, behind which the reader goes on.
 pub fn read_statements(alloc: Global, reader: &mut Reader) -> Result<Items<Stm>, AllocError>
@@ -133,9 +132,9 @@ impl Lists {
             | Token::Switch
             | Token::Try
             | Token::Synchronized => {
-                let before = mem::replace(place, Place::lost(alloc));
+                let before = place.take(alloc);
                 let next = self.turn(alloc, names, before, word)?;
-                *place = next;
+                place.put(next);
             }
         }
         Ok(())
