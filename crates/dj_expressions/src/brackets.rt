@@ -17,7 +17,7 @@ use crate::frames::{
 use crate::readings::Reading;
 use dj_names::{Boxed, ClassName, Items, JType, Shared, Units};
 use dj_syntax::Exp;
-use dj_tokens::DottedName;
+use dj_tokens::{DottedName, KnownNames};
 use std::alloc::{AllocError, Global};
 
 /// How many units `super` and the slash before it have.
@@ -25,14 +25,14 @@ const BEHIND_INTERFACE: usize = 6;
 
 impl Reading {
     /// A parenthesis opens.
-    pub fn open(self, alloc: Global) -> Result<Reading, AllocError>
+    pub fn open(self, alloc: Global, names: &mut KnownNames) -> Result<Reading, AllocError>
         ensures opened { IfOk result (λ reading. view_reading reading ≡ open_parenthesis (view_reading self)) }
     {
         match self {
             Reading::Wanted(pending) => open_more(pending, Opener::Parenthesis),
             Reading::Negation(pending) => open_behind_minus(pending),
             Reading::Head(pending) => Ok(Reading::Wanted(pending)),
-            Reading::Named(name, pending) => open_named(alloc, name, pending),
+            Reading::Named(name, pending) => open_named(alloc, names, name, pending),
             Reading::Stands(value, pending) => open_arguments(alloc, called_by(value), pending),
             Reading::Helping(pending) => open_arguments(alloc, Some(Callee::Helper), pending),
             Reading::Behind(_, _)
@@ -187,8 +187,22 @@ fn above_in(mut prefix: Vec<u16>) -> Result<Option<ClassName>, AllocError>
     Ok(Some(ClassName::new(Units::from_vec(prefix)?)))
 }
 
+/// The class of this name.
+fn class_named(
+    alloc: Global,
+    names: &mut KnownNames,
+    name: Vec<u16>,
+) -> Result<ClassName, AllocError>
+    ensures named { IfOk result (λ class. class ≡ name.items) }
+{
+    let units = Units::from_vec(name)?;
+    Ok(ClassName::new(names.shared(alloc, units)?))
+}
+
 /// What a name that doesn't begin with a variable calls.
 fn called_plainly(
+    alloc: Global,
+    names: &mut KnownNames,
     prefix: Option<Vec<u16>>,
     behind_super: bool,
     last: Units,
@@ -201,14 +215,18 @@ fn called_plainly(
             if behind_super {
                 Ok(Callee::Above(above_in(prefix)?, last))
             } else {
-                Ok(Callee::OfClass(ClassName::new(Units::from_vec(prefix)?), last))
+                Ok(Callee::OfClass(class_named(alloc, names, prefix)?, last))
             }
         }
     }
 }
 
 /// What a name calls.
-fn callee_of(name: DottedName) -> Result<Option<Callee>, AllocError>
+fn callee_of(
+    alloc: Global,
+    names: &mut KnownNames,
+    name: DottedName,
+) -> Result<Option<Callee>, AllocError>
     ensures called { IfOk result (λ callee. option_map view_callee callee ≡ callee_of (view_name name)) }
 {
     let DottedName {
@@ -220,7 +238,10 @@ fn callee_of(name: DottedName) -> Result<Option<Callee>, AllocError>
     } = name;
     match value {
         Some(value) => Ok(called_by(value)),
-        None => Ok(Some(called_plainly(prefix, behind_super, last)?)),
+        None => {
+            let callee = called_plainly(alloc, names, prefix, behind_super, last)?;
+            Ok(Some(callee))
+        }
     }
 }
 
@@ -241,6 +262,7 @@ fn open_arguments(
 /// Arguments behind a name: those of a new object behind `new`.
 fn open_named(
     alloc: Global,
+    names: &mut KnownNames,
     name: DottedName,
     mut pending: Items<Pending>,
 ) -> Result<Reading, AllocError>
@@ -248,7 +270,7 @@ fn open_named(
 {
     match take_creation(&mut pending) {
         Ok(true) => create_named(alloc, name, pending),
-        Ok(false) => call_named(alloc, name, pending),
+        Ok(false) => call_named(alloc, names, name, pending),
         Err(error) => {
             discard(name);
             discard(pending);
@@ -277,12 +299,13 @@ fn create_named(
 /// Arguments of what a name calls.
 fn call_named(
     alloc: Global,
+    names: &mut KnownNames,
     name: DottedName,
     pending: Items<Pending>,
 ) -> Result<Reading, AllocError>
     ensures opened { IfOk result (λ reading. view_reading reading ≡ open_arguments (callee_of (view_name name)) (view_open pending)) }
 {
-    match callee_of(name) {
+    match callee_of(alloc, names, name) {
         Ok(callee) => open_arguments(alloc, callee, pending),
         Err(error) => {
             discard(pending);
@@ -401,17 +424,24 @@ fn close_opened(
 {
     match pop_opener(&mut pending) {
         None => Ok(Reading::Stands(value, Items::new(alloc))),
-        Some(opener) => close_opener(value, opener, pending),
+        Some(opener) => close_opener(alloc, value, opener, pending),
     }
 }
 
 /// What closes behind a value: a parenthesis around it, or arguments.
-fn close_opener(value: Exp, opener: Opener, outer: Items<Pending>) -> Result<Reading, AllocError>
+fn close_opener(
+    alloc: Global,
+    value: Exp,
+    opener: Opener,
+    outer: Items<Pending>,
+) -> Result<Reading, AllocError>
     ensures closed { IfOk result (λ reading. view_reading reading ≡ close_opener (view_exp value) (view_opener opener) (view_open outer)) }
 {
     match opener {
         Opener::Parenthesis => Ok(Reading::Stands(value, outer)),
-        Opener::Arguments(callee, arguments) => called_with(callee, arguments, value, outer),
+        Opener::Arguments(callee, arguments) => {
+            called_with(alloc, callee, arguments, value, outer)
+        }
         Opener::Stored(labels, target) => stored(value, Opener::Stored(labels, target), outer),
         Opener::Bracket(_)
         | Opener::NameBracket(_)
@@ -424,6 +454,7 @@ fn close_opener(value: Exp, opener: Opener, outer: Items<Pending>) -> Result<Rea
 
 /// A call of what is called with an argument more.
 fn called_with(
+    alloc: Global,
     callee: Callee,
     arguments: Items<Exp>,
     value: Exp,
@@ -431,11 +462,27 @@ fn called_with(
 ) -> Result<Reading, AllocError>
     ensures called { IfOk result (λ reading. view_reading reading ≡ Called (view_callee callee) (map view_exp arguments ++ view_exp value ∷ []) (view_open outer)) }
 {
-    match with_value(arguments, value) {
+    match with_last(alloc, arguments, value) {
         Ok(arguments) => Ok(Reading::Called(callee, arguments, outer)),
         Err(error) => {
             discard(callee);
             discard(outer);
+            Err(error)
+        }
+    }
+}
+
+/// Values with the last one behind them. One that is alone has a list with room for no other.
+fn with_last(alloc: Global, values: Items<Exp>, value: Exp) -> Result<Items<Exp>, AllocError>
+    ensures more { IfOk result (λ more. map view_exp more ≡ map view_exp values ++ view_exp value ∷ []) }
+{
+    if !values.is_empty() {
+        return with_value(values, value);
+    }
+    match Vec::with_capacity(alloc, 1) {
+        Ok(room) => with_value(Items::from_vec(room), value),
+        Err(error) => {
+            discard(value);
             Err(error)
         }
     }

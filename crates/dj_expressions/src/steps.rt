@@ -19,16 +19,21 @@ use crate::frames::{
 use crate::readings::Reading;
 use dj_names::{Boxed, Items, JType};
 use dj_syntax::{Exp, Op, Var};
-use dj_tokens::{DottedName, Token, literal_of, token_of, units_of, unquoted, variable_of};
+use dj_tokens::{DottedName, KnownNames, Token, literal_of, token_of, unquoted, variable_of};
 use std::alloc::{AllocError, Global};
 
 impl Reading {
     /// A word more is read.
-    pub fn read_word(self, alloc: Global, word: &[u8]) -> Result<Reading, AllocError>
+    pub fn read_word(
+        self,
+        alloc: Global,
+        names: &mut KnownNames,
+        word: &[u8],
+    ) -> Result<Reading, AllocError>
         ensures read { IfOk result (λ reading. view_reading reading ≡ read_word (view_reading self) word.now) }
     {
         match token_of(word) {
-            Token::Open => self.open(alloc),
+            Token::Open => self.open(alloc, names),
             Token::Close => self.close(alloc),
             Token::OpenBracket => self.open_bracket(alloc),
             Token::CloseBracket => self.close_bracket(alloc),
@@ -48,7 +53,7 @@ impl Reading {
             Token::New => self.wait(Joint::Created),
             Token::InstanceOf => self.test_type(alloc),
             Token::Class => self.class_literal(alloc),
-            Token::Name => self.name(alloc, word),
+            Token::Name => self.name(alloc, names, word),
             Token::Semicolon
             | Token::OpenBrace
             | Token::CloseBrace
@@ -178,18 +183,18 @@ impl Reading {
 
     /// A name: of a variable, a class, a field or a method; behind a type that of a variable that is
     /// declared.
-    fn name(self, alloc: Global, word: &[u8]) -> Result<Reading, AllocError>
+    fn name(self, alloc: Global, names: &mut KnownNames, word: &[u8]) -> Result<Reading, AllocError>
         ensures named { IfOk result (λ reading. view_reading reading ≡ name word.now (view_reading self)) }
     {
         match self {
-            Reading::Wanted(pending) => begin_name(alloc, word, pending),
-            Reading::Negation(pending) => begin_name_behind_minus(alloc, word, pending),
+            Reading::Wanted(pending) => begin_name(alloc, names, word, pending),
+            Reading::Negation(pending) => begin_name_behind_minus(alloc, names, word, pending),
             Reading::Named(before, pending) => declare(alloc, before, variable_of(word), pending),
-            Reading::Behind(before, pending) => extend_name(alloc, before, word, pending),
+            Reading::Behind(before, pending) => extend_name(alloc, names, before, word, pending),
             Reading::Typed(kind, pending) => {
                 Ok(Reading::Declared(kind, variable_of(word), pending))
             }
-            Reading::Selecting(object, pending) => field_of(alloc, object, word, pending),
+            Reading::Selecting(object, pending) => field_of(alloc, names, object, word, pending),
             Reading::Helping(_) => Ok(self),
             Reading::Head(_)
             | Reading::Sized(_, _, _, _)
@@ -399,10 +404,15 @@ fn select_call(
 }
 
 /// A name begins.
-fn begin_name(alloc: Global, word: &[u8], pending: Items<Pending>) -> Result<Reading, AllocError>
+fn begin_name(
+    alloc: Global,
+    names: &mut KnownNames,
+    word: &[u8],
+    pending: Items<Pending>,
+) -> Result<Reading, AllocError>
     ensures begun { IfOk result (λ reading. view_reading reading ≡ Named (begun word.now) (view_open pending)) }
 {
-    match DottedName::begun(alloc, word) {
+    match DottedName::begun(alloc, names, word) {
         Ok(name) => Ok(Reading::Named(name, pending)),
         Err(error) => {
             discard(pending);
@@ -414,13 +424,14 @@ fn begin_name(alloc: Global, word: &[u8], pending: Items<Pending>) -> Result<Rea
 /// A name begins behind a minus sign.
 fn begin_name_behind_minus(
     alloc: Global,
+    names: &mut KnownNames,
     word: &[u8],
     mut pending: Items<Pending>,
 ) -> Result<Reading, AllocError>
     ensures begun { IfOk result (λ reading. view_reading reading ≡ Named (begun word.now) (Joins Negated ∷ view_open pending)) }
 {
     match pending.push(Pending::Joins(Joint::Negated)) {
-        Ok(()) => begin_name(alloc, word, pending),
+        Ok(()) => begin_name(alloc, names, word, pending),
         Err(error) => {
             discard(pending);
             Err(error)
@@ -449,13 +460,14 @@ fn declare(
 /// A name goes on.
 fn extend_name(
     alloc: Global,
+    names: &mut KnownNames,
     before: DottedName,
     word: &[u8],
     pending: Items<Pending>,
 ) -> Result<Reading, AllocError>
     ensures extended { IfOk result (λ reading. view_reading reading ≡ Named (extended (view_name before) word.now) (view_open pending)) }
 {
-    match before.extended(alloc, word) {
+    match before.extended(alloc, names, word) {
         Ok(name) => Ok(Reading::Named(name, pending)),
         Err(error) => {
             discard(pending);
@@ -467,13 +479,14 @@ fn extend_name(
 /// A field of an object stands.
 fn field_of(
     alloc: Global,
+    names: &mut KnownNames,
     object: Exp,
     word: &[u8],
     pending: Items<Pending>,
 ) -> Result<Reading, AllocError>
     ensures field { IfOk result (λ reading. view_reading reading ≡ Stands (Field (view_exp object) word.now) (view_open pending)) }
 {
-    match field(alloc, object, word) {
+    match field(alloc, names, object, word) {
         Ok(value) => Ok(Reading::Stands(value, pending)),
         Err(error) => {
             discard(pending);
@@ -483,11 +496,11 @@ fn field_of(
 }
 
 /// A field of an object.
-fn field(alloc: Global, object: Exp, word: &[u8]) -> Result<Exp, AllocError>
+fn field(alloc: Global, names: &mut KnownNames, object: Exp, word: &[u8]) -> Result<Exp, AllocError>
     ensures field { IfOk result (λ made. view_exp made ≡ Field (view_exp object) word.now) }
 {
     let object = Boxed::new(alloc, object)?;
-    let name = units_of(alloc, word)?;
+    let name = names.word(alloc, word)?;
     Ok(Exp::Field(object, name))
 }
 

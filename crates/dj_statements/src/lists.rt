@@ -1,6 +1,6 @@
 //! How far a body is read, and how its statements begin and end (JLS 14).
 
-ghost use Rattle.std.specs.Prelude.{◌≡◌, [], IfOk, List, map, option_map, reverse, ℕ};
+ghost use Rattle.std.specs.Prelude.{◌≡◌, [], IfOk, OnOk, List, map, option_map, reverse, ℕ};
 ghost use Rattle.dj_syntax.specs.Trees.{view_stm};
 ghost use Rattle.dj_grammar.specs.Blocks.{beginning, completed, completed_or, labels_of};
 ghost use Rattle.dj_grammar.specs.Readings as plain;
@@ -16,6 +16,7 @@ use crate::frames::{Clause, Frame, Last, Listed};
 use dj_expressions::{Opener, Reading, open_more, take_start};
 use dj_names::Items;
 use dj_syntax::Stm;
+use dj_tokens::KnownNames;
 use std::alloc::{AllocError, Global};
 use std::mem;
 
@@ -79,6 +80,20 @@ pub fn labels_of(alloc: Global, reading: Reading) -> Result<Items<u32>, AllocErr
             Ok(Items::new(alloc))
         }
     }
+}
+
+/// Takes away how far an expression is read.
+fn take_reading(reading: &mut Reading) -> Reading
+    ensures taken { result ≡ reading.old }
+{
+    mem::replace(reading, Reading::Lost)
+}
+
+/// Puts how far an expression is read in the place of how far it was.
+fn put_reading(reading: &mut Reading, next: Reading)
+    ensures put { reading.new ≡ next }
+{
+    drop(mem::replace(reading, next));
 }
 
 impl Place {
@@ -165,26 +180,56 @@ impl Place {
         }
     }
 
+    /// Nothing is read.
+    fn lost(alloc: Global) -> Place {
+        Place {
+            clause: Clause::Simple,
+            labels: Items::new(alloc),
+            reading: Reading::Lost,
+        }
+    }
+
+    /// Takes all away that is read.
+    pub fn take(&mut self, alloc: Global) -> Place
+        ensures taken { result ≡ self.old }
+    {
+        mem::replace(self, Place::lost(alloc))
+    }
+
+    /// Puts what is read in the place of what was.
+    pub fn put(&mut self, next: Place)
+        ensures put { self.new ≡ next }
+    {
+        drop(mem::replace(self, next));
+    }
+
     /// A word of an expression.
-    pub fn pass(self, alloc: Global, word: &[u8]) -> Result<Place, AllocError>
+    pub fn pass(
+        &mut self,
+        alloc: Global,
+        names: &mut KnownNames,
+        word: &[u8],
+    ) -> Result<(), AllocError>
+        ensures passed { OnOk result (view_place self.new ≡ (view_clause self.old.clause, reverse self.old.labels, read_word (view_reading self.old.reading) word.now)) }
+    {
+        let before = take_reading(&mut self.reading);
+        let next = before.read_word(alloc, names, word)?;
+        put_reading(&mut self.reading, next);
+        Ok(())
+    }
+
+    /// The same, of a place that is given and answered.
+    pub fn passed(
+        self,
+        alloc: Global,
+        names: &mut KnownNames,
+        word: &[u8],
+    ) -> Result<Place, AllocError>
         ensures passed { IfOk result (λ place. view_place place ≡ (view_clause self.clause, reverse self.labels, read_word (view_reading self.reading) word.now)) }
     {
-        let Place {
-            clause,
-            labels,
-            reading,
-        } = self;
-        match reading.read_word(alloc, word) {
-            Ok(reading) => Ok(Place {
-                clause,
-                labels,
-                reading,
-            }),
-            Err(error) => {
-                drop(clause);
-                Err(error)
-            }
-        }
+        let mut place = self;
+        place.pass(alloc, names, word)?;
+        Ok(place)
     }
 }
 

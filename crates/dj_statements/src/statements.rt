@@ -1,7 +1,7 @@
 //! Statements read a word at a time (JLS 14). What no statement has is read somehow, since the text of
 //! what was read is compared afterwards.
 
-ghost use Rattle.std.specs.Prelude.{◌≡◌, IfOk, map};
+ghost use Rattle.std.specs.Prelude.{◌≡◌, IfOk, OnOk, map};
 ghost use Rattle.dj_syntax.specs.Trees.{view_stm};
 ghost use Rattle.dj_statements.specs.OpenViews.{view_blocks, view_body, view_clause};
 ghost use Rattle.dj_grammar.specs.Open.{flushed};
@@ -12,7 +12,7 @@ use crate::lists::{Lists, Place, ready};
 use dj_expressions::Reading;
 use dj_names::Items;
 use dj_syntax::Stm;
-use dj_tokens::{Reader, Token, is_word, token_of};
+use dj_tokens::{KnownNames, Reader, Token, is_word, token_of};
 use std::alloc::{AllocError, Global};
 
 /// The statements up to the brace that ends a body, behind which the reader goes on.
@@ -26,8 +26,7 @@ pub fn read_statements(alloc: Global, reader: &mut Reader) -> Result<Items<Stm>,
             let list = body.into_statements(alloc)?;
             return Ok(list);
         }
-        let more = body.read_more(alloc, word)?;
-        body = more;
+        body.read_more(alloc, word)?;
     }
     body.into_statements(alloc)
 }
@@ -37,6 +36,7 @@ pub fn read_statements(alloc: Global, reader: &mut Reader) -> Result<Items<Stm>,
 struct Body {
     lists: Lists,
     place: Place,
+    names: KnownNames,
 }
 
 impl Body {
@@ -48,6 +48,7 @@ impl Body {
         Ok(Body {
             lists: Lists::new(alloc),
             place,
+            names: KnownNames::new(alloc),
         })
     }
 
@@ -59,24 +60,19 @@ impl Body {
     }
 
     /// A word more of a body.
-    fn read_more(self, alloc: Global, word: &[u8]) -> Result<Body, AllocError>
-        ensures read { IfOk result (λ body. view_body body ≡ read_more (view_body self) word.now) }
+    fn read_more(&mut self, alloc: Global, word: &[u8]) -> Result<(), AllocError>
+        ensures read { OnOk result (view_body self.new ≡ read_more (view_body self.old) word.now) }
     {
-        let Body { mut lists, place } = self;
-        match lists.read_more(alloc, place, word) {
-            Ok(place) => Ok(Body { lists, place }),
-            Err(error) => {
-                drop(lists);
-                Err(error)
-            }
-        }
+        self.lists
+            .read_more(alloc, &mut self.names, &mut self.place, word)?;
+        Ok(())
     }
 
     /// All statements of the innermost list.
     fn into_statements(self, alloc: Global) -> Result<Items<Stm>, AllocError>
         ensures flushed { IfOk result (λ list. map view_stm list ≡ flushed (view_body self).list) }
     {
-        let Body { lists, place } = self;
+        let Body { lists, place, .. } = self;
         drop(place);
         let Lists { outer, list } = lists;
         drop(outer);
@@ -85,12 +81,77 @@ impl Body {
 }
 
 impl Lists {
-    /// A word more of a body.
-    fn read_more(&mut self, alloc: Global, place: Place, word: &[u8]) -> Result<Place, AllocError>
+    /// A word more of a body. One of an expression leaves all else where it is.
+    fn read_more(
+        &mut self,
+        alloc: Global,
+        names: &mut KnownNames,
+        place: &mut Place,
+        word: &[u8],
+    ) -> Result<(), AllocError>
+        ensures read { OnOk result (view_blocks self.new place.new ≡ read_more (view_blocks self.old place.old) word.now) }
+    {
+        match token_of(word) {
+            Token::Open
+            | Token::Close
+            | Token::OpenBracket
+            | Token::CloseBracket
+            | Token::Comma
+            | Token::Dot
+            | Token::Question
+            | Token::Assigns
+            | Token::Bang
+            | Token::Operator(_)
+            | Token::Number
+            | Token::Text
+            | Token::True
+            | Token::False
+            | Token::Null
+            | Token::This
+            | Token::New
+            | Token::InstanceOf
+            | Token::Class
+            | Token::Name => place.pass(alloc, names, word)?,
+            Token::Colon
+            | Token::Semicolon
+            | Token::OpenBrace
+            | Token::CloseBrace
+            | Token::Else
+            | Token::Catch
+            | Token::Finally
+            | Token::Return
+            | Token::Throw
+            | Token::Break
+            | Token::Continue
+            | Token::Case
+            | Token::Default
+            | Token::If
+            | Token::While
+            | Token::Do
+            | Token::For
+            | Token::Switch
+            | Token::Try
+            | Token::Synchronized => {
+                let before = place.take(alloc);
+                let next = self.turn(alloc, names, before, word)?;
+                place.put(next);
+            }
+        }
+        Ok(())
+    }
+
+    /// The same, of a word that may begin or end a statement.
+    fn turn(
+        &mut self,
+        alloc: Global,
+        names: &mut KnownNames,
+        place: Place,
+        word: &[u8],
+    ) -> Result<Place, AllocError>
         ensures read { IfOk result (λ next. view_blocks self.new next ≡ read_more (view_blocks self.old place) word.now) }
     {
         match token_of(word) {
-            Token::Colon => self.colon(alloc, place, word),
+            Token::Colon => self.colon(alloc, names, place, word),
             Token::Semicolon => self.end_clause(alloc, place),
             Token::OpenBrace => self.open_brace(alloc, place),
             Token::CloseBrace => {
@@ -141,12 +202,18 @@ impl Lists {
             | Token::New
             | Token::InstanceOf
             | Token::Class
-            | Token::Name => place.pass(alloc, word),
+            | Token::Name => place.passed(alloc, names, word),
         }
     }
 
     /// A colon, of a label of a switch or of an expression.
-    fn colon(&mut self, alloc: Global, place: Place, word: &[u8]) -> Result<Place, AllocError>
+    fn colon(
+        &mut self,
+        alloc: Global,
+        names: &mut KnownNames,
+        place: Place,
+        word: &[u8],
+    ) -> Result<Place, AllocError>
         ensures read { IfOk result (λ next. view_blocks self.new next ≡ colon_of (view_blocks self.old place) word.now (view_clause place.clause)) }
     {
         match place.clause {
@@ -172,7 +239,7 @@ impl Lists {
             | Clause::DoTest(_)
             | Clause::ForOf
             | Clause::ForTest
-            | Clause::ForStep(_) => place.pass(alloc, word),
+            | Clause::ForStep(_) => place.passed(alloc, names, word),
         }
     }
 }
