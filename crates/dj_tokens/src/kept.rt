@@ -1,4 +1,4 @@
-//! KnownNames that were read, of which those that come again soon are kept once.
+//! Names that were read, of which those that come again soon are kept once.
 
 ghost use Rattle.std.specs.Prelude.{◌≡◌, IfOk, IfSome, IsTrue};
 
