@@ -51,6 +51,7 @@ import sun.misc.Unsafe;
  */
 public class Worlds {
     static final JavaCompiler JAVAC = ToolProvider.getSystemJavaCompiler();
+
     /** The kinds of references by JVMS table 5.4.3.5-A. */
     static final byte GET_FIELD = 1, GET_STATIC = 2, INVOKE_VIRTUAL = 5, INVOKE_STATIC = 6, NEW_INVOKE_SPECIAL = 8, INVOKE_INTERFACE = 9;
 
@@ -239,6 +240,9 @@ public class Worlds {
     }
 
     public static void main(String[] none) throws Exception {
+        if (!new Worlds(".").method("java/lang/String", "getClass", "()Ljava/lang/Class;").equals("java/lang/Object")) {
+            throw new AssertionError("the JVM keeps the class that holds a method elsewhere");
+        }
         BufferedReader lines = new BufferedReader(new InputStreamReader(System.in));
         StringBuilder out = new StringBuilder();
         Worlds worlds = null;

@@ -20,3 +20,4 @@ pub use choice::choose;
 pub use dj_members::MemberTable;
 pub use find::{find_field, find_method};
 pub use kinds::Kinds;
+pub use types::is_same_descriptor;

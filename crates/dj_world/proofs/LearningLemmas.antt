@@ -101,5 +101,12 @@ module _ {A : Type 0} (P : Name → A → Type 0) (xs : List A) where
       learns_like old new (λ name. Any (P name) (take i xs) ⊎ P name x) (λ name. Any (P name) (take (i + 1) xs)) (λ name. one_more i x name within is)
       (learns_then old between new (λ name. Any (P name) (take i xs)) (λ name. P name x) before here)
 
+  -- an item that tells nothing that those before it don't
+  pub learned_same : (i : ℕ) (x : A) (old new : BTreeSet Name) → i < length xs → x ≡ get_or xs i x → ((name : Name) → P name x → Any (P name) (take i xs)) → Learns old new (λ name. Any (P name) (take i xs))
+      → Learns old new (λ name. Any (P name) (take (i + 1) xs))
+  learned_same i x old new within is same before =
+      learns_like old new (λ name. Any (P name) (take i xs)) (λ name. Any (P name) (take (i + 1) xs))
+      (λ name. let more = one_more i x name within is in (λ some. more.0 (inl some), λ some. elim (more.1 some) [ inl earlier ↦ earlier | inr here ↦ same name here ])) before
+
   pub learned_all : (i : ℕ) (old new : BTreeSet Name) → length xs ≤ i → Learns old new (λ name. Any (P name) (take i xs)) → Learns old new (λ name. Any (P name) xs)
   learned_all i old new end learns = subst (λ (ys : List A). Learns old new (λ name. Any (P name) ys)) (take_all i xs end) learns

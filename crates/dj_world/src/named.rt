@@ -1,10 +1,11 @@
 //! The classes that a class file names (JVMS 4.3, 4.4.1, 4.4.6).
 
-ghost use Rattle.std.specs.Prelude.{◌≡◌, Some, IfOk, OnOk, IsSomeAnd, Any};
+ghost use Rattle.std.specs.Prelude.{◌≡◌, ◌<◌, Some, IsTrue, IfOk, OnOk, IsSomeAnd, Any, length, slice_get, take};
 ghost use Rattle.std.specs.Option.{option_copied};
 ghost use Rattle.std.specs.Ordering.{nat_cmp};
 ghost use Rattle.std.specs.Cmp.Lexicographic.{slice_cmp};
 ghost use Rattle.std.specs.List.Sorted.{IsStrictlySortedBy};
+ghost use Rattle.dj_class.specs.declared.method.Method.{Method};
 ghost use Rattle.dj_names.specs.Types.{view_type, view_descriptor};
 ghost use Rattle.dj_names.specs.ClassNames.{IsClassName};
 ghost use Rattle.dj_pool.specs.PoolFormat.{text_at};
@@ -12,6 +13,7 @@ ghost use Rattle.dj_world.specs.Named.{class_of, NamesClass, IsInDescriptor, IsI
 ghost use Rattle.dj_world.specs.Learning.{Learns, LearnsSome};
 
 use dj_class::{ClassFile, Entry, Method, Pool};
+use dj_kinds::is_same_descriptor;
 use dj_names::{ClassName, Descriptor, Field, Items, JType};
 use std::alloc::{AllocError, Global};
 use std::collections::BTreeSet;
@@ -261,7 +263,16 @@ fn learn_fields(
     Ok(())
 }
 
-/// Adds the classes that methods name.
+/// Whether the method before has the same descriptor.
+fn is_told(methods: &[Method], at: usize) -> bool
+    requires within { at < length methods.now }
+    ensures told { IsTrue result → (method : Method) → slice_get methods.now at ≡ Some method
+        → Any (λ other. view_descriptor other.descriptor ≡ view_descriptor method.descriptor) (take at methods.now) }
+{
+    at != 0 && is_same_descriptor(&methods[at - 1].descriptor, &methods[at].descriptor)
+}
+
+/// Adds the classes that methods name. A descriptor that stands behind itself is passed over.
 fn learn_methods(
     alloc: Global,
     names: &mut BTreeSet<ClassName>,
@@ -269,8 +280,10 @@ fn learn_methods(
 ) -> Result<(), AllocError>
     ensures learns { OnOk result (Learns names.old names.new (λ name. Any (λ method. NamesClass (view_descriptor method.descriptor) name) methods.now)) }
 {
-    for method in methods {
-        learn_descriptor(alloc, names, &method.descriptor)?;
+    for (at, method) in methods.iter().enumerate() {
+        if !is_told(methods, at) {
+            learn_descriptor(alloc, names, &method.descriptor)?;
+        }
     }
     Ok(())
 }

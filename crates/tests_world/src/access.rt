@@ -1,8 +1,9 @@
 //! Which members may be used where (JLS 6.6).
 
-use crate::classes::{class_of, headers, members, type_of};
+use crate::classes::{class_of, lists_of_classes, type_of};
 use dj_kinds::is_accessible;
 use dj_names::Member;
+use std::alloc::{AllocError, Global};
 use std::test::*;
 
 /// Where a method stands, where it is used, through a receiver of which type, and whether it may be.
@@ -29,23 +30,33 @@ static METHODS: [Row; 14] = [
     ((10, 0), "q/A", None, false),
 ];
 
+/// Whether the method of a row may be used.
+fn may_be_used(alloc: Global, row: &Row) -> Result<bool, AllocError> {
+    let ((class, number), from, through, _) = *row;
+    let member = Member {
+        class,
+        method: true,
+        number,
+    };
+    let from = class_of(alloc, from)?;
+    let through = match through {
+        Some(text) => Some(type_of(alloc, text)?),
+        None => None,
+    };
+    let lists = lists_of_classes(alloc)?;
+    Ok(is_accessible(
+        &lists.headers,
+        &lists.members,
+        &from,
+        member,
+        through.as_ref(),
+    ))
+}
+
 #[test]
 fn members_may_be_used(rt: HostRuntime) -> Result<(), Fail> {
-    let headers = headers(rt.alloc())?;
-    let members = members(rt.alloc())?;
-    for ((class, number), from, through, wanted) in methods() {
-        let member = Member {
-            class: *class,
-            method: true,
-            number: *number,
-        };
-        let through = match through {
-            Some(text) => Some(type_of(rt.alloc(), text)?),
-            None => None,
-        };
-        let from = class_of(rt.alloc(), from)?;
-        let may = is_accessible(&headers, &members, &from, member, through.as_ref());
-        assert!(rt; may == *wanted, "{class} {number}");
+    for row in methods() {
+        assert!(rt; may_be_used(rt.alloc(), row)? == row.3, "{}", row.1);
     }
     Ok(())
 }

@@ -1,8 +1,8 @@
 //! Which method a call means (JLS 15.12.2).
 
-use crate::classes::{class_of, headers, members, type_of, units_of};
+use crate::classes::{Lists, class_of, lists_of_classes, type_of, units_of};
 use dj_kinds::choose;
-use dj_names::{Items, StaticType};
+use dj_names::{ClassName, Items, JType, StaticType, Units};
 use std::alloc::{AllocError, Global};
 use std::test::*;
 
@@ -39,6 +39,15 @@ static CALLS: [Row; 16] = [
     ("t/B", "I", "clone", &[], None),
 ];
 
+/// A call: where it stands, the type of the receiver, the name and the types of the arguments.
+#[derive(Drop)]
+struct Call {
+    from: ClassName,
+    receiver: JType,
+    name: Units,
+    arguments: Items<StaticType>,
+}
+
 fn types_of(alloc: Global, texts: &[&str]) -> Result<Items<StaticType>, AllocError> {
     let mut types = Items::new(alloc);
     for text in texts {
@@ -51,23 +60,39 @@ fn types_of(alloc: Global, texts: &[&str]) -> Result<Items<StaticType>, AllocErr
     Ok(types)
 }
 
+fn call_of(alloc: Global, row: &Row) -> Result<Call, AllocError> {
+    Ok(Call {
+        from: class_of(alloc, row.0)?,
+        receiver: type_of(alloc, row.1)?,
+        name: units_of(alloc, row.2)?,
+        arguments: types_of(alloc, row.3)?,
+    })
+}
+
+/// The places of the method that a call means.
+fn chosen_among(lists: &Lists, call: &Call) -> Option<(u32, u32)> {
+    let chosen = choose(
+        &lists.headers,
+        &lists.members,
+        &call.from,
+        &call.receiver,
+        Some(&call.receiver),
+        &call.name,
+        call.arguments.as_slice(),
+    );
+    chosen.map(|member| (member.class, member.number))
+}
+
+fn chosen(alloc: Global, row: &Row) -> Result<Option<(u32, u32)>, AllocError> {
+    let call = call_of(alloc, row)?;
+    let lists = lists_of_classes(alloc)?;
+    Ok(chosen_among(&lists, &call))
+}
+
 #[test]
 fn calls_mean_methods(rt: HostRuntime) -> Result<(), Fail> {
-    let headers = headers(rt.alloc())?;
-    let members = members(rt.alloc())?;
-    for (from, receiver, name, arguments, wanted) in calls() {
-        let receiver = type_of(rt.alloc(), receiver)?;
-        let chosen = choose(
-            &headers,
-            &members,
-            &class_of(rt.alloc(), from)?,
-            &receiver,
-            Some(&receiver),
-            &units_of(rt.alloc(), name)?,
-            types_of(rt.alloc(), arguments)?.as_slice(),
-        );
-        let place = chosen.map(|member| (member.class, member.number));
-        assert!(rt; place == *wanted, "{name}");
+    for row in calls() {
+        assert!(rt; chosen(rt.alloc(), row)? == row.4, "{}", row.2);
     }
     Ok(())
 }

@@ -221,6 +221,20 @@ pub fn push_header(headers: &mut Headers, header: Header) -> Result<(), AllocErr
     Ok(())
 }
 
+/// Headers with the members of each.
+#[derive(Drop)]
+pub struct Lists {
+    pub headers: Headers,
+    pub members: MemberTable,
+}
+
+/// The classes, with their members.
+pub fn lists_of_classes(alloc: Global) -> Result<Lists, AllocError> {
+    let headers = headers(alloc)?;
+    let members = members(alloc)?;
+    Ok(Lists { headers, members })
+}
+
 /// The headers of the classes.
 pub fn headers(alloc: Global) -> Result<Headers, AllocError> {
     let mut headers = Headers::new(alloc);

@@ -1,7 +1,10 @@
 //! Where methods and fields are found.
 
-use crate::classes::{class_of, descriptor_of, headers, members, type_of, units_of};
+use crate::classes::{
+    Lists, class_of, descriptor_of, headers, lists_of_classes, type_of, units_of,
+};
 use dj_kinds::{Kinds, find_field, find_method};
+use std::alloc::{AllocError, Global};
 use std::test::*;
 
 /// A class, a name and a descriptor, and the places of the class and of the member that is found.
@@ -37,38 +40,48 @@ static FIELDS: [Row; 4] = [
     ("t/B", "y", "I", None),
 ];
 
+/// The places of the method that is found.
+fn method_found(alloc: Global, row: &Row) -> Result<Option<(u32, u32)>, AllocError> {
+    let class = class_of(alloc, row.0)?;
+    let name = units_of(alloc, row.1)?;
+    let descriptor = descriptor_of(alloc, row.2)?;
+    let lists = lists_of_classes(alloc)?;
+    let found = find_method(&lists.headers, &lists.members, &class, &name, &descriptor);
+    Ok(found.map(|member| (member.class, member.number)))
+}
+
 #[test]
 fn methods_are_found(rt: HostRuntime) -> Result<(), Fail> {
-    let headers = headers(rt.alloc())?;
-    let members = members(rt.alloc())?;
-    for (class, name, descriptor, wanted) in methods() {
-        let found = find_method(
-            &headers,
-            &members,
-            &class_of(rt.alloc(), class)?,
-            &units_of(rt.alloc(), name)?,
-            &descriptor_of(rt.alloc(), descriptor)?,
+    for row in methods() {
+        assert!(rt;
+            method_found(rt.alloc(), row)? == row.3,
+            "{} {}",
+            row.0,
+            row.1
         );
-        let place = found.map(|member| (member.class, member.number));
-        assert!(rt; place == *wanted, "{class} {name} {descriptor}");
     }
     Ok(())
 }
 
+/// The places of the field that is found.
+fn field_found(alloc: Global, row: &Row) -> Result<Option<(u32, u32)>, AllocError> {
+    let class = class_of(alloc, row.0)?;
+    let name = units_of(alloc, row.1)?;
+    let kind = type_of(alloc, row.2)?;
+    let lists = lists_of_classes(alloc)?;
+    let found = find_field(&lists.headers, &lists.members, &class, &name, &kind);
+    Ok(found.map(|member| (member.class, member.number)))
+}
+
 #[test]
 fn fields_are_found(rt: HostRuntime) -> Result<(), Fail> {
-    let headers = headers(rt.alloc())?;
-    let members = members(rt.alloc())?;
-    for (class, name, descriptor, wanted) in fields() {
-        let found = find_field(
-            &headers,
-            &members,
-            &class_of(rt.alloc(), class)?,
-            &units_of(rt.alloc(), name)?,
-            &type_of(rt.alloc(), descriptor)?,
+    for row in fields() {
+        assert!(rt;
+            field_found(rt.alloc(), row)? == row.3,
+            "{} {}",
+            row.0,
+            row.1
         );
-        let place = found.map(|member| (member.class, member.number));
-        assert!(rt; place == *wanted, "{class} {name} {descriptor}");
     }
     Ok(())
 }
@@ -85,15 +98,27 @@ static ABOVE: [(&'static str, &'static str, bool, bool); 4] = [
     ("q/A", "t/B", false, false),
 ];
 
+/// Whether the first class of a row is a subclass of the second, and has it above it.
+fn relations(alloc: Global, row: &(&str, &str, bool, bool)) -> Result<(bool, bool), AllocError> {
+    let lower = class_of(alloc, row.0)?;
+    let upper = class_of(alloc, row.1)?;
+    let headers = headers(alloc)?;
+    let kinds = Kinds::new(alloc, &headers)?;
+    Ok((
+        kinds.subclass(&lower, &upper),
+        kinds.implements(&lower, &upper),
+    ))
+}
+
 #[test]
 fn classes_stand_above_others(rt: HostRuntime) -> Result<(), Fail> {
-    let headers = headers(rt.alloc())?;
-    let kinds = Kinds::new(rt.alloc(), &headers)?;
-    for (lower, upper, subclass, above) in above() {
-        let lower = class_of(rt.alloc(), lower)?;
-        let upper = class_of(rt.alloc(), upper)?;
-        assert!(rt; kinds.subclass(&lower, &upper) == *subclass);
-        assert!(rt; kinds.implements(&lower, &upper) == *above);
+    for row in above() {
+        assert!(rt;
+            relations(rt.alloc(), row)? == (row.2, row.3),
+            "{} {}",
+            row.0,
+            row.1
+        );
     }
     Ok(())
 }
@@ -111,15 +136,17 @@ static CHECKED: [(&'static str, bool); 5] = [
     ("q/A", false),
 ];
 
+fn is_checked(alloc: Global, class: &str) -> Result<bool, AllocError> {
+    let class = class_of(alloc, class)?;
+    let headers = headers(alloc)?;
+    let kinds = Kinds::new(alloc, &headers)?;
+    Ok(kinds.checked(&class))
+}
+
 #[test]
 fn exceptions_are_checked(rt: HostRuntime) -> Result<(), Fail> {
-    let headers = headers(rt.alloc())?;
-    let kinds = Kinds::new(rt.alloc(), &headers)?;
-    for (class, checked) in checked() {
-        assert!(rt;
-            kinds.checked(&class_of(rt.alloc(), class)?) == *checked,
-            "{class}"
-        );
+    for row in checked() {
+        assert!(rt; is_checked(rt.alloc(), row.0)? == row.1, "{}", row.0);
     }
     Ok(())
 }

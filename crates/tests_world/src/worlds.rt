@@ -22,10 +22,9 @@ fn filled(alloc: Global) -> Result<World, AllocError> {
     Ok(world)
 }
 
-/// The method that a world finds for a class, a name and a descriptor.
+/// The method that a world of core classes finds for a class, a name and a descriptor.
 fn find(
     alloc: Global,
-    world: &World,
     class: &str,
     name: &str,
     descriptor: &str,
@@ -33,6 +32,7 @@ fn find(
     let class = class_of(alloc, class)?;
     let name = units_of(alloc, name)?;
     let descriptor = descriptor_of(alloc, descriptor)?;
+    let world = filled(alloc)?;
     Ok(world.find_method(&class, &name, &descriptor))
 }
 
@@ -94,21 +94,20 @@ static METHODS: [Row; 4] = [
 
 #[test]
 fn a_world_finds_methods(rt: HostRuntime) -> Result<(), Fail> {
-    let world = filled(rt.alloc())?;
-    for (class, name, descriptor, wanted) in methods() {
-        let found = find(rt.alloc(), &world, class, name, descriptor)?;
+    for row in methods() {
+        let found = find(rt.alloc(), row.0, row.1, row.2)?;
         let place = found.map(|member| (member.class, member.number));
-        assert!(rt; place == *wanted, "{class} {name} {descriptor}");
+        assert!(rt; place == row.3, "{} {}", row.0, row.1);
     }
     Ok(())
 }
 
 #[test]
 fn a_world_finds_no_field_of_core_classes(rt: HostRuntime) -> Result<(), Fail> {
-    let world = filled(rt.alloc())?;
     let class = class_of(rt.alloc(), "java/lang/String")?;
     let name = units_of(rt.alloc(), "value")?;
     let kind = type_of(rt.alloc(), "[C")?;
+    let world = filled(rt.alloc())?;
     assert!(rt; world.find_field(&class, &name, &kind).is_none());
     Ok(())
 }
@@ -126,17 +125,25 @@ static CLONES: [(&'static str, &'static str, bool); 5] = [
     ("q/A", "[I", true),
 ];
 
+/// Whether a member may be used where a row says.
+fn may_be_used(
+    alloc: Global,
+    member: Member,
+    row: &(&str, &str, bool),
+) -> Result<bool, AllocError> {
+    let from = class_of(alloc, row.0)?;
+    let through = type_of(alloc, row.1)?;
+    let world = filled(alloc)?;
+    Ok(world.accessible(&from, member, Some(&through)))
+}
+
 #[test]
 fn a_world_tells_what_is_accessible(rt: HostRuntime) -> Result<(), Fail> {
-    let world = filled(rt.alloc())?;
     let object = "java/lang/Object";
-    let found = find(rt.alloc(), &world, object, "clone", "()Ljava/lang/Object;")?;
+    let found = find(rt.alloc(), object, "clone", "()Ljava/lang/Object;")?;
     let clone = found.expect(&rt, "clone is found");
-    for (from, through, wanted) in clones() {
-        let from = class_of(rt.alloc(), from)?;
-        let through = type_of(rt.alloc(), through)?;
-        let may = world.accessible(&from, clone, Some(&through));
-        assert!(rt; may == *wanted);
+    for row in clones() {
+        assert!(rt; may_be_used(rt.alloc(), clone, row)? == row.2, "{}", row.0);
     }
     Ok(())
 }

@@ -4,5 +4,5 @@ use Rattle.dj_world.specs.Named.{NamesClass}
 use Rattle.dj_world.specs.Learning.{Learns}
 use Rattle.dj_world.proofs.named.learn_methods.Given as goal
 
-abbrev pub invariant-loop-method : goal.invariant-loop-method
-invariant-loop-method l = Learns l.initial.names l.names (λ name. Any (λ method. NamesClass (view_descriptor method.descriptor) name) (take l.method-index l.methods))
+abbrev pub invariant-loop-at : goal.invariant-loop-at
+invariant-loop-at l = Learns l.initial.names l.names (λ name. Any (λ method. NamesClass (view_descriptor method.descriptor) name) (take l.at l.methods))
