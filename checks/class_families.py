@@ -184,6 +184,11 @@ class Family:
             return wanted in ABOVE_ARRAYS or wanted[0] == "[" and kind[1] in "L[" and self.goes(kind[1:], wanted[1:])
         return kind[0] == "L" and (wanted == f"L{OBJECT};" or wanted[1:-1] in self.order(kind[1:-1]))
 
+    def takes(self, arguments, method):
+        """Whether a method takes arguments of these types as they are."""
+        kinds = parameters(method.descriptor)
+        return len(kinds) == len(arguments) and all(map(self.goes, arguments, kinds))
+
     def order(self, name):
         """The names of a class and its superclasses upward, and then of the interfaces of these, depth first."""
         upward = []

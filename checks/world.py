@@ -8,7 +8,7 @@ the exit status is 1.
 """
 import collections, pathlib, subprocess, sys, tempfile
 from asking import ask_each, end, given
-from class_families import ABOVE_ARRAYS, ABSTRACT, METHODS_OF_OBJECT, OBJECT, STATIC, Family, parameters
+from class_families import ABOVE_ARRAYS, ABSTRACT, METHODS_OF_OBJECT, OBJECT, PROTECTED, STATIC, Family, parameters
 
 FOLDER = pathlib.Path(__file__).parent
 OPENED = ["--add-opens", "java.base/java.lang.invoke=ALL-UNNAMED", "-Xshare:auto"]
@@ -84,13 +84,17 @@ def explains_choice(family, call, our, their):
             return "javac takes no static method of an interface by an expression; here that is asked of the call and not of the choice"
     if method and method.flags & ABSTRACT and family.class_of(owner).is_interface() and not all(upper.flags & ABSTRACT for upper in family.all_above(call.receiver[1:-1])):
         return "javac looks for no abstract method of an interface from a class that isn't abstract"
-    if their != "none":
-        kinds = parameters(their.split()[2])
-        if not all(map(family.goes, call.arguments, kinds)):
-            return "no conversion boxes (JLS 15.12.2.2 alone)"
+    if their != "none" and not family.takes(call.arguments, family.declared(*their.split())):
+        return "no conversion boxes (JLS 15.12.2.2 alone)"
     first = their != "none" and family.like(call.receiver[1:-1], call.name, parameters(their.split()[2]))[0]
     if first and (first[0], *first[1][1:]) != tuple(their.split()) or method and len(family.like(call.receiver[1:-1], call.name, parameters(descriptor))) > 1:
         return "of methods of one name and parameters the first in the order of search alone is looked at"
+    others = [other for owner in family.order(call.receiver[1:-1]) for other in getattr(family.class_of(owner), "methods", []) if other.name == call.name]
+    others = [other for other in others if family.takes(call.arguments, other)]
+    if call.way == "static" and any(other.flags & PROTECTED and not other.flags & STATIC for other in others):
+        return "a call by a class's name is asked as one by super, so that protected methods that aren't static are candidates"
+    if any(len(family.like(call.receiver[1:-1], call.name, parameters(other.descriptor))) > 1 for other in others):
+        return "the same of another method that takes the arguments"
     return None
 
 
