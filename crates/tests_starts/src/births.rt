@@ -70,7 +70,12 @@ fn births_end_with_their_call_and_are_written_or_not(rt: HostRuntime) -> Result<
     assert!(rt; are(&told(rt.alloc(), Between::Loads)?, &[0, 9, 1]));
     assert!(rt; are(&told(rt.alloc(), Between::Stores)?, &[0, 9, 0]));
     assert!(rt; are(&told(rt.alloc(), Between::Inner)?, &[0, 9, 1, 4, 8, 1]));
-    assert!(rt; are(&told(rt.alloc(), Between::InnerWithoutDup)?, &[0, 9, 0, 4, 8, 1]));
+    assert!(rt;
+        are(
+            &told(rt.alloc(), Between::InnerWithoutDup)?,
+            &[0, 9, 0, 4, 8, 1]
+        )
+    );
     assert!(rt; are(&told(rt.alloc(), Between::Range)?, &[0, 9, 0]));
     Ok(())
 }

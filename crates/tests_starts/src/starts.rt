@@ -29,7 +29,11 @@ fn ways(alloc: Global, code: &Code, pc: u32) -> Result<Items<u32>, AllocError> {
     let mut ways = Items::new(alloc);
     for way in edges(alloc, code, pc)?.as_slice() {
         let Edge { target, caught } = *way;
-        ways.push(if caught { target.wrapping_add(1000) } else { target })?;
+        ways.push(if caught {
+            target.wrapping_add(1000)
+        } else {
+            target
+        })?;
     }
     Ok(ways)
 }
