@@ -1,82 +1,78 @@
-//! Code and frames, made by hand.
-use dj_code::{Code, Frame, Handler, Instruction, MethodRef, Slots, Tag};
-use dj_names::{ClassName, Descriptor, Items, JType, SharedList, Units};
+//! Code made from its bytes.
+ghost use Rattle.std.specs.Prelude.{IfOk};
+ghost use Rattle.dj_instructions.specs.Instructions.{IsRising, view_instructions};
+
+use dj_class::{Entry, Pool};
+use dj_code::{BadKind, Code, Handler, Instruction, read_instructions};
+use dj_layout::{Fault, Stop};
+use dj_names::{ClassName, Descriptor, Items, SharedList, Units};
 use std::alloc::{AllocError, Global};
 
-/// The name of a class `C`.
-pub fn class(alloc: Global) -> Result<ClassName, AllocError> {
-    Ok(ClassName::new(Units::from_slice(alloc, &[67])?))
+/// A handler of everything for this range, or none.
+fn handlers(alloc: Global, handler: Option<(u32, u32, u32)>) -> Result<Items<Handler>, AllocError> {
+    let mut handlers = Items::new(alloc);
+    if let Some((start, end, target)) = handler {
+        handlers.push(Handler {
+            start,
+            end,
+            target,
+            class: None,
+        })?;
+    }
+    Ok(handlers)
 }
 
-/// The descriptor without a result of a method of so many ints.
-fn of_ints(alloc: Global, count: usize) -> Result<Descriptor, AllocError> {
-    let mut parameters = Vec::new(alloc);
-    for _ in 0..count {
-        parameters.push(JType::Int)?;
+/// The instructions of a code that names nothing of a pool; one that is longer than code may be is
+/// told as cut off.
+fn instructions(alloc: Global, bytes: &[u8]) -> Result<Items<(u32, Instruction)>, Stop<BadKind>>
+    ensures rising { IfOk result (λ found. IsRising (view_instructions found)) }
+{
+    if bytes.len() > 65_535 {
+        return Err(Stop::Fault(Fault {
+            kind: BadKind::CutOff,
+            offset: 0,
+        }));
     }
+    let mut entries = Items::new(alloc);
+    entries.push(Entry::Skip)?;
+    let pool = Pool::new(alloc, entries)?;
+    let found = read_instructions(alloc, &pool, bytes)?;
+    Ok(found)
+}
+
+/// The descriptor of a method of nothing.
+fn of_nothing(alloc: Global) -> Result<Descriptor, AllocError> {
+    let parameters = SharedList::from_vec(alloc, Vec::new(alloc))?;
     Ok(Descriptor::Method {
-        parameters: SharedList::from_vec(alloc, parameters)?,
+        parameters,
         result: None,
     })
 }
 
-/// The constructor of `C` with so many parameters.
-pub fn constructor(alloc: Global, count: usize) -> Result<Instruction, AllocError> {
-    Ok(Instruction::InvokeSpecial(MethodRef {
-        owner: JType::Class(class(alloc)?),
-        interface: false,
-        name: Units::from_slice(alloc, &[60, 105, 110, 105, 116, 62])?,
-        descriptor: of_ints(alloc, count)?,
-    }))
-}
-
-/// An entry of an exception table that takes everything, or a class.
-pub fn handler(
-    alloc: Global,
-    range: (u32, u32),
-    target: u32,
-    all: bool,
-) -> Result<Handler, AllocError> {
-    let class = if all { None } else { Some(class(alloc)?) };
-    Ok(Handler {
-        start: range.0,
-        end: range.1,
-        target,
-        class,
-    })
-}
-
-/// A frame of these locals and this stack.
-pub fn frame(alloc: Global, locals: &[Tag], stack: &[Tag]) -> Result<Frame, AllocError> {
-    Ok(Frame {
-        locals: Slots::from_slice(alloc, locals)?,
-        stack: Slots::from_slice(alloc, stack)?,
-        unborn_this: false,
-    })
-}
-
-/// Code of a static method `f` of `C` without parameters.
+/// The code of a static method `f` of `f`, with these bytes and this handler.
 pub fn code(
     alloc: Global,
-    instructions: Items<(u32, Instruction)>,
-    handlers: Items<Handler>,
-) -> Result<Code, AllocError> {
+    bytes: &[u8],
+    handler: Option<(u32, u32, u32)>,
+) -> Result<Code, Stop<BadKind>>
+    ensures rising { IfOk result (λ code. IsRising (view_instructions code.instructions)) }
+{
+    let name = Units::from_slice(alloc, &[102])?;
+    let class = ClassName::new(name.copy(alloc)?);
+    let descriptor = of_nothing(alloc)?;
+    let handlers = handlers(alloc, handler)?;
+    let instructions = instructions(alloc, bytes)?;
     Ok(Code {
-        class: class(alloc)?,
-        name: Units::from_slice(alloc, &[102])?,
+        class,
+        name,
         flags: 8,
         interface: false,
-        descriptor: of_ints(alloc, 0)?,
+        descriptor,
         thrown: Items::new(alloc),
-        max_stack: 4,
-        max_locals: 4,
+        max_stack: 2,
+        max_locals: 2,
         instructions,
         handlers,
         frames: Items::new(alloc),
     })
-}
-
-/// Whether these are the numbers.
-pub fn are(numbers: &Items<u32>, expected: &[u32]) -> bool {
-    numbers.as_slice() == expected
 }
