@@ -9,7 +9,7 @@ use dj_names::{
 use std::alloc::{AllocError, Global};
 
 /// A field or a method: its flags, its name and its descriptor.
-type Row = (u16, &'static str, &'static str);
+pub type Row = (u16, &'static str, &'static str);
 
 /// A class: its name, its superclass, its interfaces and its flags, its fields and its methods.
 struct Class {
@@ -190,7 +190,8 @@ fn fields_of(alloc: Global, rows: &[Row]) -> Result<Items<Field>, AllocError> {
     Ok(fields)
 }
 
-fn methods_of(alloc: Global, rows: &[Row]) -> Result<Items<MethodHead>, AllocError> {
+/// The methods of rows.
+pub fn methods_of(alloc: Global, rows: &[Row]) -> Result<Items<MethodHead>, AllocError> {
     let mut methods = Items::new(alloc);
     for (flags, name, descriptor) in rows {
         methods.push(MethodHead {

@@ -1,6 +1,6 @@
 //! Searches where many ways lead to one interface, and where superclasses go round in a circle.
 
-use crate::classes::{descriptor_of, push_header, push_members, units_of};
+use crate::classes::{descriptor_of, methods_of, push_header, push_members, units_of};
 use dj_headers::Headers;
 use dj_kinds::{Kinds, MemberTable, find_method};
 use dj_names::{ClassMembers, ClassName, Header, Items, Member, MethodHead, Units};
@@ -43,14 +43,7 @@ fn both(alloc: Global, level: u16) -> Result<Items<ClassName>, AllocError> {
 
 /// One method `m` of nothing.
 fn one_method(alloc: Global) -> Result<Items<MethodHead>, AllocError> {
-    let mut methods = Items::new(alloc);
-    methods.push(MethodHead {
-        flags: 0x0001,
-        name: units_of(alloc, "m")?,
-        descriptor: descriptor_of(alloc, "()V")?,
-        thrown: Items::new(alloc),
-    })?;
-    Ok(methods)
+    methods_of(alloc, &[(0x0001, "m", "()V")])
 }
 
 impl Classes {
@@ -126,22 +119,40 @@ impl Classes {
     }
 }
 
-/// Each class has both interfaces of the first level. The last interface has a method.
+/// Adds the levels of interfaces. The last interface has a method.
+fn push_levels(classes: &mut Classes, alloc: Global) -> Result<(), AllocError> {
+    for level in 0..LEVELS - 1 {
+        classes.push_interface(b'L', level, Items::new(alloc))?;
+        classes.push_interface(b'R', level, Items::new(alloc))?;
+    }
+    classes.push_interface(b'L', LEVELS - 1, Items::new(alloc))?;
+    let methods = one_method(alloc)?;
+    classes.push_interface(b'R', LEVELS - 1, methods)
+}
+
+/// Adds classes, each below the next, that have both interfaces of the first level.
+fn push_classes(classes: &mut Classes, alloc: Global) -> Result<(), AllocError> {
+    for number in 0..CLASSES {
+        let interfaces = both(alloc, 0)?;
+        classes.push_class(number, number + 1, interfaces, Items::new(alloc))?;
+    }
+    Ok(())
+}
+
+/// Classes, each of which has both interfaces of the first level.
 fn tower(alloc: Global) -> Result<Classes, AllocError> {
     let mut classes = Classes::new(alloc);
-    for level in 0..LEVELS {
-        classes.push_interface(b'L', level, Items::new(alloc))?;
-        let methods = if level == LEVELS - 1 {
-            one_method(alloc)?
-        } else {
-            Items::new(alloc)
-        };
-        classes.push_interface(b'R', level, methods)?;
-    }
-    for number in 0..CLASSES {
-        classes.push_class(number, number + 1, both(alloc, 0)?, Items::new(alloc))?;
-    }
+    push_levels(&mut classes, alloc)?;
+    push_classes(&mut classes, alloc)?;
     Ok(classes)
+}
+
+/// Adds classes, each below the one before it.
+fn push_chain(classes: &mut Classes, alloc: Global) -> Result<(), AllocError> {
+    for number in 0..CHAIN {
+        classes.push_class(number + 1, number, Items::new(alloc), Items::new(alloc))?;
+    }
+    Ok(())
 }
 
 #[test]
@@ -171,14 +182,7 @@ fn a_circle_of_superclasses_ends(rt: HostRuntime) -> Result<(), Fail> {
 #[test]
 fn the_top_of_a_long_chain_is_reached(rt: HostRuntime) -> Result<(), Fail> {
     let mut classes = Classes::new(rt.alloc());
-    for number in 0..CHAIN {
-        classes.push_class(
-            number + 1,
-            number,
-            Items::new(rt.alloc()),
-            Items::new(rt.alloc()),
-        )?;
-    }
+    push_chain(&mut classes, rt.alloc())?;
     let top = named(rt.alloc(), b'C', 0)?;
     let bottom = named(rt.alloc(), b'C', CHAIN)?;
     let kinds = Kinds::new(rt.alloc(), &classes.headers)?;
