@@ -1,0 +1,106 @@
+-- What the functions that work on frames promise each other.
+use Rattle.std.specs.Prelude.{◌≡◌, ◌↔◌, ℕ, zero, suc, List, [], ◌∷◌, map, Option, Some, None, Bool, true, false, slice_get, codes}
+use Rattle.std.specs.Option.{option_and_then}
+use Rattle.dj_names.specs.declared.header.Header.{Header}
+use Rattle.dj_names.specs.Types as type
+use Rattle.dj_names.specs.Types.{Class, Array, view_type}
+use Rattle.dj_names.specs.Assignable.{object_name}
+use Rattle.dj_frames.specs.Frames.{Tag, Top, Int, Float, Double, Long, Null, UnbornThis, Object, Unborn, tag_of, view_tag, view_tags, is_unborn_this}
+use Rattle.dj_code.specs.MethodCode.{Code}
+use Rattle.dj_effects.specs.declared.want.Want as code_want
+use Rattle.dj_effects.specs.declared.want.Want.TheVariants as code
+use Rattle.dj_effects.specs.declared.forms.Form as code_form
+use Rattle.dj_effects.specs.declared.known.ClassTags as code_classes
+use Rattle.dj_effects.specs.declared.known.ArrayTags as code_arrays
+use Rattle.dj_effects.specs.declared.known.Known as code_known
+use Rattle.dj_effects.specs.declared.unborn.Unborn as code_unborn
+use Rattle.dj_effects.specs.declared.unborn.Unborn.TheVariants as unborn
+use Rattle.dj_effects.specs.declared.working.Working as code_working
+use Rattle.dj_tags.specs.Goes.{Assignability, Working}
+use Rattle.dj_effects.specs.Works.{Want, Of, Reference, AnyArray, ByteArray, Form, Work}
+use Rattle.dj_effects.specs.Rows.{object, throwable_name}
+use Rattle.dj_effects.specs.Operands.{HasOperands, is_unborn_at}
+use Rattle.dj_effects.specs.Effects.{effect}
+
+-- a working frame of the code, seen as plain data
+abbrev pub view_working : code_working.Working → Working
+view_working frame = record { locals = view_tags frame.locals; stack = view_tags frame.stack; unborn_this = frame.unborn_this }
+
+-- what the code wants of an entry, seen as plain data
+abbrev pub view_want : code_want.Want → Want
+view_want (code.Of tag) = Of (view_tag tag.now)
+view_want (code.Value kind) = Of (tag_of (view_type kind.now))
+view_want (code.Object kind) = Of (Object (view_type kind.now))
+view_want code.Reference = Reference
+view_want code.AnyArray = AnyArray
+view_want code.ByteArray = ByteArray
+
+-- wants of the code, in order
+abbrev pub view_wants : List code_want.Want → List Want
+view_wants = map view_want
+
+-- a form of the code, seen as plain data
+abbrev pub view_form : code_form.Form → Form
+view_form form = record { takes = form.takes.now; gives = form.gives.now }
+
+-- the references are those of the classes that they are called after
+pub record AreClasses (tags : code_classes.ClassTags) : Type 0 where
+  pub object_is : view_tag tags.object ≡ object object_name
+  pub throwable_is : view_tag tags.throwable ≡ object throwable_name
+  pub string_is : view_tag tags.string ≡ object (codes "java/lang/String")
+  pub class_is : view_tag tags.class ≡ object (codes "java/lang/Class")
+  pub handle_is : view_tag tags.handle ≡ object (codes "java/lang/invoke/MethodHandle")
+  pub method_type_is : view_tag tags.method_type ≡ object (codes "java/lang/invoke/MethodType")
+
+-- the references are those of arrays of what they are called after
+pub record AreArrays (tags : code_arrays.ArrayTags) : Type 0 where
+  pub ints_are : view_tag tags.ints ≡ Object (Array type.Int)
+  pub longs_are : view_tag tags.longs ≡ Object (Array type.Long)
+  pub floats_are : view_tag tags.floats ≡ Object (Array type.Float)
+  pub doubles_are : view_tag tags.doubles ≡ Object (Array type.Double)
+  pub objects_are : view_tag tags.objects ≡ Object (Array (Class object_name))
+  pub chars_are : view_tag tags.chars ≡ Object (Array type.Char)
+  pub shorts_are : view_tag tags.shorts ≡ Object (Array type.Short)
+
+-- each reference is what it is called after
+pub record IsKnown (known : code_known.Known) : Type 0 where
+  pub classes : AreClasses known.classes
+  pub arrays : AreArrays known.arrays
+
+-- the test for an object that isn't constructed yet
+abbrev pub is_unborn : code_unborn.Unborn → Tag → Bool
+is_unborn unborn.This = is_unborn_this
+is_unborn (unborn.At pc) = is_unborn_at pc
+
+-- the object that a tag tells of, where it isn't constructed yet
+abbrev pub unborn_of : Tag → Option code_unborn.Unborn
+unborn_of Top = None
+unborn_of Int = None
+unborn_of Float = None
+unborn_of Double = None
+unborn_of Long = None
+unborn_of Null = None
+unborn_of UnbornThis = Some unborn.This
+unborn_of (Object type) = None
+unborn_of (Unborn pc) = Some (unborn.At pc)
+
+-- the object on top of a stack, where it isn't constructed yet
+abbrev pub unborn_on : List Tag → Option code_unborn.Unborn
+unborn_on stack = option_and_then unborn_of (slice_get stack 0)
+
+-- the item at a place passes the test
+abbrev pub passes_at : {A : Type 0} → (A → Bool) → ℕ → List A → Bool
+passes_at test place [] = false
+passes_at test zero (x ∷ list) = test x
+passes_at test (suc place) (x ∷ list) = passes_at test place list
+
+-- a list with a function applied to the item at a place
+abbrev pub changed_at : {A : Type 0} → (A → A) → ℕ → List A → List A
+changed_at f place [] = []
+changed_at f zero (x ∷ list) = f x ∷ list
+changed_at f (suc place) (x ∷ list) = x ∷ changed_at f place list
+
+-- what was done to a frame: whether the operands were there, and then the effect
+pub record Did (Goes : Assignability) (headers : List Header) (code : Code) (pc : ℕ) (work : Work) (old : Working) (done : Bool) (new : Working) : Type 0 where
+  pub operands : (done ≡ true) ↔ HasOperands Goes headers code pc work old
+  pub effect : done ≡ true → new ≡ effect code pc work old

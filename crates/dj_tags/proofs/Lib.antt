@@ -1,0 +1,3 @@
+pub mod Superclasses
+pub mod Assignable
+pub mod SlotLemmas

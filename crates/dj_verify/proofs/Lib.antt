@@ -1,0 +1,9 @@
+mod Examples
+mod Violations
+mod PaddedFrames
+mod GivenFrames
+mod StackWords
+mod ReachedFrames
+mod PlaceSteps
+mod PlacedFrames
+mod OneTable

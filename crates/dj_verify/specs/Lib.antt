@@ -1,0 +1,7 @@
+-- What the public contracts rest on, in reading order.
+pub mod Rules
+pub mod Table
+pub mod Verified
+pub mod Tabled
+-- What the crate keeps to itself.
+pub mod Checking

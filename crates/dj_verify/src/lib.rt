@@ -1,0 +1,19 @@
+//! Type checking of a method's code by the frames that its class file gives (JVMS 4.10.1).
+//! It stands on `dj_effects` for what instructions do to frames, and on `dj_code` and `dj_headers`.
+//! The layers above use `verify`, and `strict` for what Java asks besides.
+#![tactic(auto)]
+
+mod checking;
+mod fault;
+mod padding;
+mod reaching;
+mod rooms;
+mod rule;
+mod strictly;
+mod subject;
+mod verifying;
+
+pub use fault::VerifyFault;
+pub use rule::Rule;
+pub use strictly::strict;
+pub use verifying::verify;

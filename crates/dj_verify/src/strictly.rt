@@ -1,0 +1,45 @@
+//! Whether a table of frames is one by Java's assignability too (JLS 4.10).
+
+ghost use Rattle.std.specs.Prelude.{◌≡◌, map, IfOk, IfErr, OnOk};
+ghost use Rattle.dj_instructions.specs.Instructions.{IsRising, view_instructions};
+ghost use Rattle.dj_frames.specs.Frames.{view_frame};
+ghost use Rattle.dj_code.specs.MethodCode.{view_code, view_typed};
+ghost use Rattle.dj_tags.specs.Laxly as strict;
+ghost use Rattle.dj_verify.specs.Table.{IsFrameTable};
+ghost use Rattle.dj_verify.specs.Tabled.{HasTable};
+ghost use Rattle.dj_verify.specs.Verified.{IsTyped, IsVerifyFault};
+
+use crate::fault::VerifyFault;
+use crate::verifying::frames_of;
+use dj_code::{Code, Typed};
+use dj_frames::Frame;
+use dj_headers::Headers;
+use dj_names::Items;
+use dj_tags::{Goes, Strictly};
+use std::alloc::Global;
+
+/// The table of frames of code by what Java asks of references, or its first violation.
+fn strict_frames(alloc: Global, headers: &Headers, code: &Code) -> Result<Items<Frame>, VerifyFault>
+    requires rising { IsRising (view_instructions code.now.instructions) }
+    ensures table { IfOk result (λ frames. IsFrameTable (strict.Strictly headers.now) headers.now (view_code code.now) (map view_frame frames)) }
+    ensures unverified { IfErr result (IsVerifyFault (strict.Strictly headers.now) headers.now (view_code code.now)) }
+{
+    let strictly = Strictly { headers };
+    let found = frames_of(alloc, &strictly, code);
+    let Strictly { headers: _ } = strictly;
+    found
+}
+
+/// Answers that the frames of code are a table by what Java asks of references too. An error tells the
+/// first violation, by the order in which instructions stand, or that there is no memory.
+pub fn strict(alloc: Global, headers: &Headers, typed: &Typed) -> Result<(), VerifyFault>
+    requires rising { IsRising (view_instructions typed.now.code.instructions) }
+    requires typed { HasTable (view_typed typed.now) }
+    ensures typed { OnOk result (IsTyped (strict.Strictly headers.now) headers.now (view_typed typed.now)) }
+    ensures unverified { IfErr result (IsVerifyFault (strict.Strictly headers.now) headers.now (view_code typed.now.code)) }
+{
+    match strict_frames(alloc, headers, &typed.code) {
+        Ok(_frames) => Ok(()),
+        Err(fault) => Err(fault),
+    }
+}

@@ -1,0 +1,101 @@
+//! The table of frames of a method's code (JVMS 4.10.1.6).
+
+ghost use Rattle.std.specs.Prelude.{◌≡◌, map, IfOk, IfErr};
+ghost use Rattle.dj_instructions.specs.Instructions.{IsRising, view_instructions};
+ghost use Rattle.dj_frames.specs.Frames.{view_frame};
+ghost use Rattle.dj_code.specs.MethodCode.{view_code, view_typed};
+ghost use Rattle.dj_tags.specs.Laxly as lax;
+ghost use Rattle.dj_verify.specs.Rules.{entry};
+ghost use Rattle.dj_verify.specs.Table.{IsFrameTable};
+ghost use Rattle.dj_verify.specs.Verified.{IsTyped, IsVerifyFault};
+ghost use Rattle.dj_verify.specs.Checking.{working_of, IsReady};
+
+use crate::checking::{Checked, check_place};
+use crate::fault::VerifyFault;
+use crate::padding::entry;
+use crate::subject::Subject;
+use dj_code::{Code, Typed};
+use dj_frames::Frame;
+use dj_headers::Headers;
+use dj_names::Items;
+use dj_tags::{Goes, Laxly};
+use std::alloc::Global;
+
+/// The table of frames of code that begins with this one, or its first violation.
+fn check_all<G: Goes>(
+    alloc: Global,
+    goes: &G,
+    subject: &Subject<'_>,
+    first: Frame,
+) -> Result<Items<Frame>, VerifyFault>
+    requires ready { IsReady subject.now }
+    requires entry { working_of first ≡ entry (view_code subject.now.code.now) }
+    ensures table { IfOk result (λ frames. IsFrameTable (G.relation goes.now) (G.known goes.now) (view_code subject.now.code.now) (map view_frame frames)) }
+    ensures unverified { IfErr result (IsVerifyFault (G.relation goes.now) (G.known goes.now) (view_code subject.now.code.now)) }
+{
+    let mut frames = Items::new(alloc);
+    let mut flow = Some(first);
+    let count = subject.code.instructions.len();
+    for (i, at) in subject.code.instructions.as_slice().iter().enumerate() {
+        let is_last = i + 1 == count;
+        let checked = check_place(alloc, goes, subject, at, is_last, flow)?;
+        match checked {
+            Checked::Breaks(rule) => return Err(VerifyFault::Unverified { pc: at.0, rule }),
+            Checked::Kept { frame, behind } => {
+                frames.push(frame)?;
+                flow = behind;
+            }
+        }
+    }
+    Ok(frames)
+}
+
+/// The table of frames of code that is looked up, or its first violation.
+fn frames_by<G: Goes>(
+    alloc: Global,
+    goes: &G,
+    subject: &Subject<'_>,
+) -> Result<Items<Frame>, VerifyFault>
+    requires ready { IsReady subject.now }
+    ensures table { IfOk result (λ frames. IsFrameTable (G.relation goes.now) (G.known goes.now) (view_code subject.now.code.now) (map view_frame frames)) }
+    ensures unverified { IfErr result (IsVerifyFault (G.relation goes.now) (G.known goes.now) (view_code subject.now.code.now)) }
+{
+    let first = entry(alloc, subject.code, &subject.tops)?;
+    check_all(alloc, goes, subject, first)
+}
+
+/// The table of frames of code, or its first violation.
+pub fn frames_of<G: Goes>(alloc: Global, goes: &G, code: &Code) -> Result<Items<Frame>, VerifyFault>
+    requires rising { IsRising (view_instructions code.now.instructions) }
+    ensures table { IfOk result (λ frames. IsFrameTable (G.relation goes.now) (G.known goes.now) (view_code code.now) (map view_frame frames)) }
+    ensures unverified { IfErr result (IsVerifyFault (G.relation goes.now) (G.known goes.now) (view_code code.now)) }
+{
+    let subject = Subject::new(alloc, code)?;
+    frames_by(alloc, goes, &subject)
+}
+
+/// The same by what the machine asks of references.
+fn lax_frames(alloc: Global, headers: &Headers, code: &Code) -> Result<Items<Frame>, VerifyFault>
+    requires rising { IsRising (view_instructions code.now.instructions) }
+    ensures table { IfOk result (λ frames. IsFrameTable (lax.Laxly headers.now) headers.now (view_code code.now) (map view_frame frames)) }
+    ensures unverified { IfErr result (IsVerifyFault (lax.Laxly headers.now) headers.now (view_code code.now)) }
+{
+    let laxly = Laxly { headers };
+    let found = frames_of(alloc, &laxly, code);
+    let Laxly { headers: _ } = laxly;
+    found
+}
+
+/// The code with its table of frames. An error tells the first violation, by the order in which
+/// instructions stand, or that there is no memory.
+pub fn verify(alloc: Global, headers: &Headers, code: Code) -> Result<Typed, VerifyFault>
+    requires rising { IsRising (view_instructions code.instructions) }
+    ensures same { IfOk result (λ typed. typed.code ≡ code) }
+    ensures typed { IfOk result (λ typed. IsTyped (lax.Laxly headers.now) headers.now (view_typed typed)) }
+    ensures unverified { IfErr result (IsVerifyFault (lax.Laxly headers.now) headers.now (view_code code)) }
+{
+    match lax_frames(alloc, headers, &code) {
+        Ok(frames) => Ok(Typed { code, frames }),
+        Err(fault) => Err(fault),
+    }
+}
