@@ -1,13 +1,17 @@
 -- A run of the machine only adds to the actions, and one of fewer steps is below one of more.
 use Rattle.std.proofs.Common.{◌≡◌, ℕ, zero, suc, ◌≤◌, List, [], ◌∷◌, Option, Some, None, refl, arith}
+use Rattle.std.specs.Int.{w32, int_wrapping_add}
 use Rattle.dj_names.specs.declared.header.Header.{Header}
-use Rattle.dj_names.specs.Types.{JType, result_of}
-use Rattle.dj_values.specs.Values.{Value, Action, Answer, IsBelow}
-use Rattle.dj_values.specs.Outcomes.{Throws, More, Stuck, there, then_on, State, Outcome, Is, Stops, outside, opening, IsFront, actions_of, Below}
-use Rattle.dj_values.proofs.Growth.{Rises, rises-is, rises-stops, rises-outside, rises-bind, below-refl, below-bind, shown-below}
+use Rattle.dj_names.specs.Types.{result_of}
+use Rattle.dj_values.specs.Values.{Value, Int, Action, Answer, IsBelow}
+use Rattle.dj_values.specs.Outcomes.{Throws, More, Stuck, Reply, Gives, there, then_on, State, Outcome, Is, Stops, outside, opening, IsFront, actions_of, Below}
+use Rattle.dj_values.proofs.Growth.{front-refl, Rises, rises-is, rises-stops, rises-outside, rises-bind, below-refl, below-bind, shown-below}
 use Rattle.dj_instructions.specs.Instructions.{Instructions}
 use Rattle.dj_code.specs.MethodCode.{Code}
-use Rattle.dj_bytecode.specs.Machine.{Slots, local_slots, Family, Strict, Loads, Returns, NotYet, meaning_of, Place, Before, Returned, strict, step, step_first, handler_for, caught, pc_of, onward, steps, first_locals, bytecode_show}
+use Rattle.dj_bytecode.specs.Operands.{with_int}
+use Rattle.dj_bytecode.specs.Shuffles.{shuffled}
+use Rattle.dj_bytecode.specs.Meanings.{Family, Strict, Moves, Loads, Stores, Counts, Leads, Returns, NotRun, meaning_of}
+use Rattle.dj_bytecode.specs.Machine.{Slots, local_slots, Place, Before, Returned, strict, led_to, jumped, topmost, written, step, step_first, handler_for, caught, pc_of, onward, steps, first_locals, bytecode_show}
 
 module _ {S : Type 0} (headers : List Header) (slots : Slots S) (code : Code) where
   -- a run of the machine, from the first of these instructions on
@@ -16,19 +20,32 @@ module _ {S : Type 0} (headers : List Header) (slots : Slots S) (code : Code) wh
 
   -- ---- actions are only added
 
-  rises-step : (result : Option JType) (family : Family) (rest : Instructions) (stack : List Value) → Rises (step headers slots result family rest stack)
-  rises-step result (Strict count operation) rest stack =
+  rises-written : (slot : ℕ) (rest : Instructions) (given : Value × List Value) → Rises (written slots slot rest given)
+  rises-written slot rest given = record { rises = λ state. front-refl state.world.actions }
+
+  rises-step : (family : Family) (rest : Instructions) (stack : List Value) → Rises (step headers slots code family rest stack)
+  rises-step (Strict count operation) rest stack =
       rises-bind (outside headers (strict count operation stack)) _ (rises-outside headers (strict count operation stack)) (λ next. rises-is (Before rest next))
-  rises-step result (Loads of_kind slot) rest stack =
+  rises-step (Moves forms) rest stack =
+      rises-bind (outside headers (there (shuffled forms stack))) _ (rises-outside headers (there (shuffled forms stack))) (λ next. rises-is (Before rest next))
+  rises-step (Loads of_kind slot) rest stack =
       rises-bind (λ state. outside headers (then_on (there (slots.read state.store slot)) of_kind) state) _
       (record { rises = λ state. (rises-outside headers (then_on (there (slots.read state.store slot)) of_kind)).rises state }) (λ value. rises-is (Before rest (value ∷ stack)))
-  rises-step result (Returns gives) rest stack =
-      rises-bind (outside headers (gives result stack)) _ (rises-outside headers (gives result stack)) (λ value. rises-is (Returned value))
-  rises-step result NotYet rest stack = rises-stops More
+  rises-step (Stores of_kind slot) rest stack =
+      let reply = then_on (topmost stack) (λ top. then_on (of_kind top.0) (λ value. Gives (value, top.1))) in
+      rises-bind (outside headers reply) (written slots slot rest) (rises-outside headers reply) (rises-written slot rest)
+  rises-step (Counts slot by) rest stack =
+      let reply : S → Reply (Value × List Value) = λ store. then_on (there (slots.read store slot)) (λ value. with_int value (λ number. Gives (Int (int_wrapping_add w32 number by), stack))) in
+      rises-bind (λ state. outside headers (reply state.store) state) (written slots slot rest) (record { rises = λ state. (rises-outside headers (reply state.store)).rises state }) (rises-written slot rest)
+  rises-step (Leads count choice) rest stack =
+      rises-bind (outside headers (jumped count choice stack)) _ (rises-outside headers (jumped count choice stack)) (λ led. rises-is (led_to code.instructions rest led))
+  rises-step (Returns gives) rest stack =
+      rises-bind (outside headers (gives (result_of code.descriptor) stack)) _ (rises-outside headers (gives (result_of code.descriptor) stack)) (λ value. rises-is (Returned value))
+  rises-step NotRun rest stack = rises-stops More
 
-  rises-first : (result : Option JType) (rest : Instructions) (stack : List Value) → Rises (step_first headers slots result rest stack)
-  rises-first result [] stack = rises-stops Stuck
-  rises-first result (first ∷ rest) stack = rises-step result (meaning_of first.1) rest stack
+  rises-first : (rest : Instructions) (stack : List Value) → Rises (step_first headers slots code rest stack)
+  rises-first [] stack = rises-stops Stuck
+  rises-first (first ∷ rest) stack = rises-step (meaning_of headers code.class first.1) rest stack
 
   front-caught : (pc : ℕ) (start : List Action) (outcome : Outcome S Place) → IsFront start (actions_of outcome) → IsFront start (actions_of (caught headers code pc outcome))
   front-caught pc start (Is place state) front = front
@@ -50,9 +67,8 @@ module _ {S : Type 0} (headers : List Header) (slots : Slots S) (code : Code) wh
   pub rises-steps : (bound : ℕ) (rest : Instructions) (stack : List Value) → Rises (steps headers slots code bound rest stack)
   rises-steps zero rest stack = rises-stops _
   rises-steps (suc bound) rest stack =
-      let result = result_of code.descriptor in
-      rises-bind (λ state. caught headers code (pc_of rest) (step_first headers slots result rest stack state)) _
-      (rises-caught (pc_of rest) (step_first headers slots result rest stack) (rises-first result rest stack)) (rises-onward (steps headers slots code bound) (rises-steps bound))
+      rises-bind (λ state. caught headers code (pc_of rest) (step_first headers slots code rest stack state)) _
+      (rises-caught (pc_of rest) (step_first headers slots code rest stack) (rises-first rest stack)) (rises-onward (steps headers slots code bound) (rises-steps bound))
 
   -- ---- greater bounds
 
@@ -64,7 +80,7 @@ module _ {S : Type 0} (headers : List Header) (slots : Slots S) (code : Code) wh
   below-steps zero more less rest stack state = (rises-steps more rest stack).rises state
   below-steps (suc bound) zero less rest stack state = absurd (omega arith)
   below-steps (suc bound) (suc more) less rest stack state =
-      let one = caught headers code (pc_of rest) (step_first headers slots (result_of code.descriptor) rest stack state) in
+      let one = caught headers code (pc_of rest) (step_first headers slots code rest stack state) in
       below-bind one one _ _ (below-refl one) (below-onward (steps headers slots code bound) (steps headers slots code more) (below-steps bound more (omega arith))) (rises-onward (steps headers slots code more) (rises-steps more))
 
 -- ---- methods

@@ -1,3 +1,4 @@
 pub mod Growth
 pub mod NarrowedResults
 pub mod Examples
+pub mod WorkedSteps

@@ -6,7 +6,7 @@ use Rattle.dj_names.specs.Types.{JType, Boolean, Byte, Char, Short, Float, Doubl
 use Rattle.dj_values.specs.Values.{Int}
 use Rattle.dj_values.specs.Fits.{int_range}
 use Rattle.dj_meaning.specs.Conversions.{converted}
-use Rattle.dj_bytecode.specs.Machine.{narrowed}
+use Rattle.dj_bytecode.specs.Operands.{narrowed}
 
 pub narrows_as_converted : (result : JType) (number : ℤ) → IsSome (int_range result) → narrowed result number ≡ converted result (Int number)
 narrows_as_converted Boolean number kept = refl

@@ -5,7 +5,7 @@ ghost use Rattle.dj_names.specs.Types.{JType};
 ghost use Rattle.dj_values.specs.Values.{Int};
 ghost use Rattle.dj_values.specs.Fits.{int_range};
 ghost use Rattle.dj_meaning.specs.Conversions.{converted};
-ghost use Rattle.dj_bytecode.specs.Machine.{narrowed};
+ghost use Rattle.dj_bytecode.specs.Operands.{narrowed};
 
 /// An int that is returned becomes the same in the machine and in source, whichever type kept as an
 /// int the result has: boolean, byte, char, short or int.
