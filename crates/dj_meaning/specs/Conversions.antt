@@ -1,10 +1,12 @@
--- What becomes of a value where a type is wanted: assignment, return and call (JLS 5.1.2, 5.1.3, 5.2, 5.3).
-use Rattle.std.specs.Prelude.{ℤ, pos}
+-- What becomes of a value where a type is wanted: assignment, return, call and cast (JLS 5.1.2, 5.1.3, 5.2, 5.3, 5.5).
+use Rattle.std.specs.Prelude.{ℤ, pos, List, codes, if◌then◌else◌}
 use Rattle.std.specs.Int.{w8, w16, w32, int_bit_and, int_rem_euclid, int_wrap}
+use Rattle.dj_names.specs.declared.header.Header.{Header}
 use Rattle.dj_names.specs.Types.{JType, Boolean, Byte, Char, Short, Float, Double, Class, Array}
 use Rattle.dj_names.specs.Types as types
-use Rattle.dj_values.specs.Values.{Value, Int, Long, Null, Ref}
-use Rattle.dj_values.specs.Outcomes.{More, Stuck, Reply, Gives, Halts}
+use Rattle.dj_values.specs.Values.{RefValue, Value, Int, Long, Null, Ref}
+use Rattle.dj_values.specs.Deciding.{is_subtype}
+use Rattle.dj_values.specs.Outcomes.{More, Stuck, Reply, Gives, Halts, trap}
 
 -- an int where a type is wanted: a narrower one keeps its low bits, a boolean the lowest, a long is as great;
 -- what would be a float or double is not followed further
@@ -52,3 +54,42 @@ converted type (Int number) = converted_int type number
 converted type (Long number) = converted_long type number
 converted type Null = converted_reference type Null
 converted type (Ref reference) = converted_reference type (Ref reference)
+
+-- ---- casts
+
+-- a long that is cast: to a narrower type by its low bits (5.1.3)
+abbrev pub cast_long : JType → ℤ → Reply Value
+cast_long Boolean number = Halts Stuck
+cast_long Byte number = Gives (Int (int_wrap w8 number))
+cast_long Char number = Gives (Int (int_rem_euclid number (pos 65536)))
+cast_long Short number = Gives (Int (int_wrap w16 number))
+cast_long types.Int number = Gives (Int (int_wrap w32 number))
+cast_long types.Long number = Gives (Long number)
+cast_long Float number = Halts More
+cast_long Double number = Halts More
+cast_long (Class name) number = Halts Stuck
+cast_long (Array element) number = Halts Stuck
+
+-- a reference that is cast: one whose class doesn't go to the type traps (5.5.3)
+abbrev pub checked : List Header → JType → RefValue → Reply Value
+checked headers type reference = if is_subtype headers reference.class type then Gives (Ref reference) else trap (codes "java/lang/ClassCastException")
+
+-- likewise, to any type; a number type is never one
+abbrev pub cast_reference : List Header → JType → RefValue → Reply Value
+cast_reference headers Boolean reference = Halts Stuck
+cast_reference headers Byte reference = Halts Stuck
+cast_reference headers Char reference = Halts Stuck
+cast_reference headers Short reference = Halts Stuck
+cast_reference headers types.Int reference = Halts Stuck
+cast_reference headers types.Long reference = Halts Stuck
+cast_reference headers Float reference = Halts Stuck
+cast_reference headers Double reference = Halts Stuck
+cast_reference headers (Class name) reference = checked headers (Class name) reference
+cast_reference headers (Array element) reference = checked headers (Array element) reference
+
+-- a value that is cast to a type
+abbrev pub cast : List Header → JType → Value → Reply Value
+cast headers type (Int number) = converted_int type number
+cast headers type (Long number) = cast_long type number
+cast headers type Null = converted_reference type Null
+cast headers type (Ref reference) = cast_reference headers type reference

@@ -1,4 +1,22 @@
 -- What the public contracts rest on, in reading order.
 pub mod Operators
+pub mod UnaryOperators
 pub mod Conversions
+pub mod Members
+pub mod Visible
+pub mod Fields
+pub mod Calls
+pub mod Targets
+pub mod Promotions
+pub mod StaticTypes
+pub mod Objects
+pub mod Runs
+pub mod Expressions
+pub mod Completions
+pub mod Declarations
+pub mod Statements
 pub mod Meaning
+pub mod Variables
+pub mod Monitors
+pub mod Ways
+pub mod Preserving

@@ -1,153 +1,111 @@
--- What a tree means, and what a bounded run of a body shows (JLS 14.2, 14.17, 15).
-use Rattle.std.specs.Prelude.{ℕ, List, [], Option, Some, None, slice_get}
+-- What statements do, and what a bounded run of a body shows (JLS 8.4.1, 8.4.7, 8.8.7, 14).
+use Rattle.std.specs.Prelude.{ℕ, ℤ, List, [], map, Option, Some, None, slice_get, option_and_then, if◌then◌else◌}
 use Rattle.dj_names.specs.declared.header.Header.{Header}
 use Rattle.dj_names.specs.declared.members.ClassMembers.{ClassMembers}
-use Rattle.dj_names.specs.Types.{JType, parameters_of, result_of}
+use Rattle.dj_names.specs.MethodNames.{is_constructor}
+use Rattle.dj_names.specs.Types.{JType, Class, parameters_of, result_of}
 use Rattle.dj_syntax.specs.declared.variable.VarKind.{VarKind}
 use Rattle.dj_syntax.specs.declared.variable.VarKind.TheVariants as kind
 use Rattle.dj_syntax.specs.declared.variable.Var.{Var}
-use Rattle.dj_syntax.specs.Trees.{Exp, Variable, Binary, Stm, Block, Stms, Empty, And, Body}
+use Rattle.dj_syntax.specs.Trees.{Exp, Stm, Block, Labelled, Declare, Set, SetField, SetStatic, SetElement, Run, If, While, Switch, Throw, Rethrow, Try, Synchronized, Construct, Do, For, Finally, Stms, Empty, And, Groups, NoGroups, AndGroup, Catches, NoCatches, AndCatch, Body}
 use Rattle.dj_syntax.specs.Trees as trees
-use Rattle.dj_values.specs.Values.{RefValue, Value, Int, Answer, Show}
-use Rattle.dj_values.specs.Fits.{is_static, this_of, behind_this}
-use Rattle.dj_values.specs.Outcomes.{Stuck, State, Outcome, Is, Stops, bind, outside, opening, shown}
-use Rattle.dj_meaning.specs.Operators.{operate}
-use Rattle.dj_meaning.specs.Conversions.{converted}
-
--- ---- what a run knows and has
-
--- what a run knows: the headers of the classes that run, the members of those of the world in the same order,
--- the class of the body, its method's result, and `this`, where it has one
-pub record Context : Type 0 where
-  pub headers : List Header
-  pub members : List ClassMembers
-  pub class : List ℕ
-  pub result : Option JType
-  pub this : Option Value
-
--- the type of each variable that is in scope (JLS 6.3)
-abbrev pub Scope : Type 0
-Scope = Var → Option JType
-
--- what a run changes: the value of each variable that has one, and the monitors that it holds, the innermost first
-pub record Store : Type 0 where
-  pub variables : Var → Option Value
-  pub held : List RefValue
-
--- what a tree means: an outcome from each state
-abbrev pub Meaning : Type 0 → Type 0
-Meaning A = State Store → Outcome Store A
-
--- a result, and nothing done
-abbrev pub pure : {A : Type 0} → A → Meaning A
-pure result state = Is result state
-
--- what the rules of the language rule out, and by now what has no meaning yet
-abbrev pub stuck : {A : Type 0} → Meaning A
-stuck state = Stops Stuck state
-
--- one thing after another
-abbrev pub after : {A B : Type 0} → Meaning A → (A → Meaning B) → Meaning B
-after first next state = bind (first state) next
-
--- ---- expressions
-
--- a variable has a type, and a value (JLS 6.3, 16)
-abbrev pub looked_up : Option JType → Option Value → Meaning Value
-looked_up None found = stuck
-looked_up (Some type) None = stuck
-looked_up (Some type) (Some value) = pure value
-
--- the value of an expression (JLS 15)
-abbrev pub value : Context → Scope → Exp → Meaning Value
-value context scope (trees.Int number) = pure (Int number)
-value context scope (Variable variable) = λ state. looked_up (scope variable) (state.store.variables variable) state
-value context scope (Binary operator left right) = operate context.headers operator (value context scope left) (value context scope right)
--- of the others the meaning isn't said yet
-value context scope (trees.Long number) = stuck
-value context scope (trees.Text units) = stuck
-value context scope (trees.Truth known) = stuck
-value context scope trees.Null = stuck
-value context scope trees.This = stuck
-value context scope (trees.ClassOf kind) = stuck
-value context scope (trees.Field object name) = stuck
-value context scope (trees.Static class name) = stuck
-value context scope (trees.Element array index) = stuck
-value context scope (trees.Call object name arguments) = stuck
-value context scope (trees.StaticCall class name arguments) = stuck
-value context scope (trees.SuperCall above name arguments) = stuck
-value context scope (trees.New class arguments) = stuck
-value context scope (trees.NewArray kind sizes more) = stuck
-value context scope (trees.Cast kind operand) = stuck
-value context scope (trees.InstanceOf operand kind) = stuck
-value context scope (trees.Negative operand) = stuck
-value context scope (trees.Not operand) = stuck
-value context scope (trees.Choice test first second) = stuck
-value context scope (trees.Assign variable assigned) = stuck
+use Rattle.dj_values.specs.Values.{RefValue, Value, Answer, PutStatic, Show}
+use Rattle.dj_values.specs.Fits.{is_static, this_of, behind_this, element_of}
+use Rattle.dj_values.specs.Deciding.{is_instance}
+use Rattle.dj_values.specs.Outcomes.{Throws, State, ask, outside, opening, shown}
+use Rattle.dj_meaning.specs.Members.{view_members}
+use Rattle.dj_meaning.specs.Fields.{selected, named_field}
+use Rattle.dj_meaning.specs.StaticTypes.{Context, Scope, with_type, plain, type_of, types_of, construct_target}
+use Rattle.dj_meaning.specs.Runs.{Store, Meaning, pure, stop, stuck, ◌>>=◌, with, look, fitted, assigned}
+use Rattle.dj_meaning.specs.Expressions.{either, value, values, test, effect}
+use Rattle.dj_meaning.specs.Completions.{Completion, Normal, Break, Continue, Return, Misfit, sequence, taken, turns, do_turns, thrown, handled, finished, returns_nothing, returns_value}
+use Rattle.dj_meaning.specs.Declarations.{caught, declared, within, behind, locally, opened, passed, initialised}
+use Rattle.dj_meaning.specs.Statements.{synchronized, does, field_set, element_set, constructed, has_label, label_for, number_of, switched}
 
 -- ---- statements
 
--- how a statement completes (JLS 14.1): it goes on; it returns, with a value or without one; or it returns otherwise than its method does
-pub data Completion : Type 0 where
-  Normal : Completion
-  Return : Option Value → Completion
-  Misfit : Completion
-
--- a return without a value, given the method's result (JLS 14.17)
-abbrev pub returns_nothing : Option JType → Meaning Completion
-returns_nothing None = pure (Return None)
-returns_nothing (Some type) = pure Misfit
-
--- a return of a value, converted to the method's result (JLS 14.17, 5.2)
-abbrev pub returns_value : Context → Option JType → Value → Meaning Completion
-returns_value context None value = pure Misfit
-returns_value context (Some type) value = after (outside context.headers (converted type value)) (λ result. pure (Return (Some result)))
-
--- what stands behind a statement runs where that completes normally
-abbrev pub sequence : Meaning Completion → Completion → Meaning Completion
-sequence next Normal = next
-sequence next (Return result) = pure (Return result)
-sequence next Misfit = pure Misfit
-
 abbrev mutual
-  -- a statement, each of whose loops has at most so many turns
-  pub run : Context → Scope → ℕ → Stm → Meaning Completion
-  run context scope bound (Block list) = run_all context scope bound list
-  run context scope bound (trees.Return None) = returns_nothing context.result
-  run context scope bound (trees.Return (Some result)) = after (value context scope result) (returns_value context context.result)
-  -- of the others the meaning isn't said yet
-  run context scope bound (trees.Labelled label statement) = stuck
-  run context scope bound (trees.Declare variable kind value) = stuck
-  run context scope bound (trees.Set variable value) = stuck
-  run context scope bound (trees.SetField object name value) = stuck
-  run context scope bound (trees.SetStatic class name value) = stuck
-  run context scope bound (trees.SetElement array index value) = stuck
-  run context scope bound (trees.Run call) = stuck
-  run context scope bound (trees.If test first second) = stuck
-  run context scope bound (trees.While test body) = stuck
-  run context scope bound (trees.Switch switched cases) = stuck
-  run context scope bound (trees.Break label) = stuck
-  run context scope bound (trees.Continue label) = stuck
-  run context scope bound (trees.Throw thrown) = stuck
-  run context scope bound (trees.Rethrow variable) = stuck
-  run context scope bound (trees.Try body clauses) = stuck
-  run context scope bound (trees.Synchronized monitor body) = stuck
-  run context scope bound (trees.Construct own arguments) = stuck
-  run context scope bound (trees.Do body test) = stuck
-  run context scope bound (trees.For test variable step body) = stuck
-  run context scope bound (trees.Finally body last) = stuck
+  -- a statement, each of whose loops has at most so many turns; given the label right before it
+  pub run : Context → Scope → ℕ → Option ℕ → Stm → Meaning Completion
+  run context scope bound own (Block list) = run_then context scope bound list (pure Normal)
+  run context scope bound own (Labelled label statement) = run context scope bound (Some label) statement >>= taken label
+  run context scope bound own (Declare variable kind initial) =
+      opened scope variable >>= λ done. initialised context (with_type variable kind scope) variable initial
+  run context scope bound own (Set variable new) = assigned context.headers scope variable (value context scope new) >>= λ kept. pure Normal
+  run context scope bound own (SetField object name new) =
+      with (option_and_then (selected context.headers context.members context.class name) (plain (type_of context scope object)))
+      (field_set context name (value context scope object) (value context scope new))
+  run context scope bound own (SetStatic class name new) =
+      with (named_field context.headers context.members context.class class name) (λ field.
+      value context scope new >>= fitted context.headers field.type >>= λ kept. does context (ask (PutStatic (Class class) name field.type kept)))
+  run context scope bound own (SetElement array index new) =
+      with (option_and_then element_of (plain (type_of context scope array)))
+      (element_set context (value context scope array) (value context scope index) (value context scope new))
+  run context scope bound own (Run call) = effect context scope call >>= λ dropped. pure Normal
+  run context scope bound own (If condition first second) =
+      test context scope condition >>= λ answer. either answer (run_then context scope bound first (pure Normal)) (run_then context scope bound second (pure Normal))
+  run context scope bound own (While condition body) =
+      turns bound own (test context scope condition) (pure tt) (run_then context scope bound body (pure Normal))
+  run context scope bound own (Switch on groups) =
+      value context scope on >>= λ found. outside context.headers (number_of found) >>= λ number. switched (run_from context scope bound groups) (label_for groups number)
+  run context scope bound own (trees.Break label) = pure (Break label)
+  run context scope bound own (trees.Continue label) = pure (Continue label)
+  run context scope bound own (trees.Return None) = returns_nothing context.result
+  run context scope bound own (trees.Return (Some result)) = value context scope result >>= returns_value context context.result
+  run context scope bound own (Throw exception) = value context scope exception >>= thrown context
+  run context scope bound own (Rethrow variable) = look scope variable >>= thrown context
+  run context scope bound own (Try body clauses) =
+      λ state. handled (run_clauses context scope bound clauses) (run_then context scope bound body (pure Normal) state)
+  run context scope bound own (Synchronized monitor body) =
+      value context scope monitor >>= synchronized context (run_then context scope bound body (pure Normal))
+  run context scope bound own (Construct this arguments) =
+      constructed context (construct_target context this (types_of context scope arguments)) (values context scope arguments)
+  run context scope bound own (Do body condition) =
+      do_turns bound own (test context scope condition) (run_then context scope bound body (pure Normal))
+  run context scope bound own (For condition variable step body) =
+      turns bound own (test context scope condition) (assigned context.headers scope variable (value context scope step) >>= λ kept. pure tt)
+      (run_then context scope bound body (pure Normal))
+  run context scope bound own (Finally body last) =
+      λ state. finished (run_then context scope bound last (pure Normal)) (run_then context scope bound body (pure Normal) state)
 
-  -- statements in order
-  pub run_all : Context → Scope → ℕ → Stms → Meaning Completion
-  run_all context scope bound Empty = pure Normal
-  run_all context scope bound (And first rest) = after (run context scope bound first) (sequence (run_all context scope bound rest))
+  -- statements in order, and what comes behind them in their scope: what a statement declares is of it and of what follows alone
+  pub run_then : Context → Scope → ℕ → Stms → Meaning Completion → Meaning Completion
+  run_then context scope bound Empty next = next
+  run_then context scope bound (And first rest) next =
+      locally (declared first) (run context scope bound None first >>= sequence (run_then context (within (declared first) scope) bound rest next))
+
+  -- the groups of a switch, one after another
+  pub run_groups : Context → Scope → ℕ → Groups → Meaning Completion
+  run_groups context scope bound NoGroups = pure Normal
+  run_groups context scope bound (AndGroup labels body rest) = run_then context scope bound body (run_groups context (behind body scope) bound rest)
+
+  -- the groups from the one of a label on; what those before it declare is in scope, without a value
+  pub run_from : Context → Scope → ℕ → Groups → Option ℤ → Meaning Completion
+  run_from context scope bound NoGroups wanted = pure Normal
+  run_from context scope bound (AndGroup labels body rest) wanted =
+      if has_label wanted labels then run_then context scope bound body (run_groups context (behind body scope) bound rest)
+      else passed scope body (run_from context (behind body scope) bound rest wanted)
+
+  -- the first catch clause that takes an exception, or none: then it is thrown on
+  pub run_clauses : Context → Scope → ℕ → Catches → RefValue → Meaning Completion
+  run_clauses context scope bound NoCatches reference = stop (Throws reference)
+  run_clauses context scope bound (AndCatch class variable body rest) reference =
+      if is_instance context.headers reference.class class
+      then caught scope variable reference (run_then context (with_type variable (Class class) scope) bound body (pure Normal))
+      else run_clauses context scope bound rest reference
+
+-- statements in order
+abbrev pub run_all : Context → Scope → ℕ → Stms → Meaning Completion
+run_all context scope bound list = run_then context scope bound list (pure Normal)
 
 -- ---- bodies
 
--- a completion at the end of a body, given the method's result (JLS 8.4.7): what fits no method is stuck
+-- a completion at the end of a body, given the method's result (8.4.7): what fits no method is stuck
 abbrev pub ended : Option JType → Completion → Meaning (Option Value)
 ended None Normal = pure None
 ended (Some type) Normal = stuck
+ended result (Break label) = stuck
+ended result (Continue label) = stuck
 ended result (Return value) = pure value
 ended result Misfit = stuck
 
@@ -161,19 +119,19 @@ of_parameter {A = A} items variable = by_kind variable.kind
     by_kind kind.Caught = None
     by_kind kind.State = None
 
--- a body, whose parameters are in scope (JLS 8.4.1)
+-- a body, whose parameters are in scope (8.4.1)
 abbrev pub run_body : Context → Body → ℕ → Meaning (Option Value)
-run_body context body bound =
-    after (run_all context (of_parameter (parameters_of body.descriptor)) bound body.statements) (ended context.result)
+run_body context body bound = run_all context (of_parameter (parameters_of body.descriptor)) bound body.statements >>= ended context.result
 
 -- what the run of a body knows, given its arguments, `this` first where it has one
 abbrev pub context_of : List Header → List ClassMembers → Body → List Value → Context
 context_of headers members body arguments = record {
   headers = headers;
-  members = members;
+  members = map view_members members;
   class = body.class;
   result = result_of body.descriptor;
   this = this_of (is_static body.flags) arguments;
+  constructs = is_constructor body.name;
 }
 
 -- as a body begins: the parameters have their arguments, and no monitor is held

@@ -136,9 +136,9 @@ abbrev pub by_form : {S : Type 0} → List Header → Operator → (State S → 
 by_form headers (Strict operation) left right state =
     bind (left state) (λ x behind. bind (right behind) (λ y. outside headers (operation x y)))
 by_form headers (After wanted) left right state =
-    bind (bind (left state) (λ x. outside headers (truth_of x))) (λ answer behind.
-    if is_wanted wanted answer then bind (bind (right behind) (λ y. outside headers (truth_of y))) (λ last. Is (truth last))
-    else Is (truth answer) behind)
+    bind (bind (left state) (λ x. outside headers (truth_of x))) (λ answer.
+    if is_wanted wanted answer then (λ behind. bind (bind (right behind) (λ y. outside headers (truth_of y))) (λ last. Is (truth last)))
+    else Is (truth answer))
 
 -- an operator between what gives its operands
 abbrev pub operate : {S : Type 0} → List Header → Op → (State S → Outcome S Value) → (State S → Outcome S Value) → State S → Outcome S Value

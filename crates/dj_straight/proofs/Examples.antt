@@ -1,5 +1,5 @@
 -- Straight code and other code at worked examples: a wrong definition is refused here.
-use Rattle.std.proofs.Common.{◌≡◌, ℕ, false, true, List, [], ◌∷◌, Some, refl, arith}
+use Rattle.std.proofs.Common.{◌≡◌, ℕ, false, true, [], ◌∷◌, Some, refl, arith}
 use Rattle.std.proofs.lemmas.List.Elements.{All-head, All-from_recursion}
 use Rattle.std.specs.Prelude.{pos}
 use Rattle.dj_names.specs.declared.members.Constant.TheVariants as constant

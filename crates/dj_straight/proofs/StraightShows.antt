@@ -6,7 +6,7 @@ use Rattle.std.proofs.lemmas.Nat.Bits.{and_pow, bit_at_and, bit_at-lt}
 use Rattle.dj_names.specs.declared.header.Header.{Header}
 use Rattle.dj_names.specs.declared.members.ClassMembers.{ClassMembers}
 use Rattle.dj_names.specs.Types as types
-use Rattle.dj_names.specs.Types.{JType, Method, parameters_of, result_of}
+use Rattle.dj_names.specs.Types.{JType, Method, Of, parameters_of, result_of}
 use Rattle.dj_names.specs.declared.members.Constant.TheVariants as constant
 use Rattle.dj_syntax.specs.declared.variable.Var.{Var}
 use Rattle.dj_syntax.specs.declared.variable.VarKind.TheVariants as variable
@@ -24,7 +24,12 @@ use Rattle.dj_instructions.specs.Instructions as instruction
 use Rattle.dj_code.specs.MethodCode.{Code}
 use Rattle.dj_code.specs.ReadCode.{HasHead}
 use Rattle.dj_meaning.specs.Operators.{operate}
-use Rattle.dj_meaning.specs.Meaning.{Context, Scope, Store, Meaning, value, Return, run_all, ended, of_parameter, context_of, entered, source_show}
+use Rattle.dj_meaning.specs.Promotions.{typing_of, becomes_floating}
+use Rattle.dj_meaning.specs.StaticTypes.{Context, Scope, plain, type_of}
+use Rattle.dj_meaning.specs.Runs.{Store, Meaning}
+use Rattle.dj_meaning.specs.Expressions.{floating, value}
+use Rattle.dj_meaning.specs.Completions.{Return}
+use Rattle.dj_meaning.specs.Meaning.{run_all, ended, of_parameter, context_of, entered, source_show}
 use Rattle.dj_bytecode.specs.Machine.{Locals, local_slots, steps, slots_of, first_locals, bytecode_show}
 use Rattle.dj_bytecode.specs.SameShows.{AreArgumentsOf, SameShows}
 use Rattle.dj_bytecode.proofs.Growth.{more_shows_more}
@@ -117,6 +122,28 @@ record HasParameters (numbers : List ℤ) (scope : Scope) (state : State Store) 
   typed : (slot : ℕ) → slot < length numbers → scope (parameter slot) ≡ Some types.Int
   found : (slot : ℕ) → slot < length numbers → state.store.variables (parameter slot) ≡ Some (Int (number_at numbers slot))
 
+-- a formula has the type int
+int-is : (context : Context) (scope : Scope) (numbers : List ℤ) (formula : Formula) (state : State Store) → HasParameters numbers scope state → UsesParameters (length numbers) formula
+    → type_of context scope (exp_of formula) ≡ Some (Of types.Int)
+int-is context scope numbers (Number number) state has uses = refl
+int-is context scope numbers (Parameter slot) state has uses = rw (has.typed slot uses)
+int-is context scope numbers (Calculation Add left right) state has uses = rw (int-is context scope numbers left state has uses.0, int-is context scope numbers right state has uses.1)
+int-is context scope numbers (Calculation Sub left right) state has uses = rw (int-is context scope numbers left state has uses.0, int-is context scope numbers right state has uses.1)
+int-is context scope numbers (Calculation Mul left right) state has uses = rw (int-is context scope numbers left state has uses.0, int-is context scope numbers right state has uses.1)
+
+-- so its operands become no floats
+no_floats : (operation : Operation) → becomes_floating (typing_of (operator operation)) (Some types.Int) (Some types.Int) ≡ false
+no_floats Add = refl
+no_floats Sub = refl
+no_floats Mul = refl
+
+left-is : (context : Context) (scope : Scope) (operation : Operation) (left right : Exp) (part : Meaning Value) → type_of context scope left ≡ Some (Of types.Int) → type_of context scope right ≡ Some (Of types.Int)
+    → floating (becomes_floating (typing_of (operator operation)) (plain (type_of context scope left)) (plain (type_of context scope right))) part ≡ part
+left-is context scope operation left right part a b =
+    ap (λ becomes. floating becomes part)
+    (ap (λ one. becomes_floating (typing_of (operator operation)) (plain one) (plain (type_of context scope right))) a
+    ∙ ap (λ one. becomes_floating (typing_of (operator operation)) (Some types.Int) (plain one)) b ∙ no_floats operation)
+
 -- an operator on two ints
 calculates : (headers : List Header) (operation : Operation) (left right : ℤ) (first second : Meaning Value) (state : State Store) → first state ≡ Is (Int left) state → second state ≡ Is (Int right) state
     → operate headers (operator operation) first second state ≡ Is (Int (calculate operation left right)) state
@@ -130,7 +157,9 @@ value-is : (context : Context) (scope : Scope) (numbers : List ℤ) (formula : F
 value-is context scope numbers (Number number) state has uses = refl
 value-is context scope numbers (Parameter slot) state has uses = rw (has.typed slot uses, has.found slot uses)
 value-is context scope numbers (Calculation operation left right) state has uses =
-    calculates context.headers operation (meaning numbers left) (meaning numbers right) (value context scope (exp_of left)) (value context scope (exp_of right)) state (value-is context scope numbers left state has uses.0) (value-is context scope numbers right state has uses.1)
+    let plainly = left-is context scope operation (exp_of left) (exp_of right) (value context scope (exp_of left)) (int-is context scope numbers left state has uses.0) (int-is context scope numbers right state has uses.1) in
+    ap (λ part. operate context.headers (operator operation) part (value context scope (exp_of right)) state) plainly
+    ∙ calculates context.headers operation (meaning numbers left) (meaning numbers right) (value context scope (exp_of left)) (value context scope (exp_of right)) state (value-is context scope numbers left state has uses.0) (value-is context scope numbers right state has uses.1)
 
 -- a statement that returns an int, where the method's result is int
 returns-int : (context : Context) (scope : Scope) (turns : ℕ) (exp : Exp) (number : ℤ) (state : State Store) → context.result ≡ Some types.Int → value context scope exp state ≡ Is (Int number) state
@@ -189,14 +218,14 @@ module _ (headers : List Header) (code : Code) (numbers : List ℤ) (state : Sta
   pushes number stack [] rest is = absurd (cc)
   pushes number stack (first ∷ tail) rest is =
       let here : first.1 ≡ instruction.Push (constant.Int number) = cc in
-      record { left = tail; spelled = cc; ran = λ more. rw here refl }
+      record { left = tail; spelled = cc; ran = λ more. subst (λ i. run (suc more) ((first.0, i) ∷ tail) stack ≡ run more tail (Int number ∷ stack)) (sym here) refl }
 
   loads : (slot : ℕ) (stack : List Value) (tail : Instructions) (rest : List Instruction) → slot < length numbers → map (λ i. i.1) tail ≡ instruction.Load kind.Int slot ∷ rest → Leads rest tail stack (Int (number_at numbers slot) ∷ stack) (λ more. suc more)
   loads slot stack [] rest within is = absurd (cc)
   loads slot stack (first ∷ tail) rest within is =
       let here : first.1 ≡ instruction.Load kind.Int slot = cc in
       let found = loaded slot within in
-      record { left = tail; spelled = cc; ran = λ more. rw (here, found) refl }
+      record { left = tail; spelled = cc; ran = λ more. subst (λ i. run (suc more) ((first.0, i) ∷ tail) stack ≡ run more tail (Int (number_at numbers slot) ∷ stack)) (sym here) (rw found refl) }
 
   calculations : (operation : Operation) (left right : ℤ) (stack : List Value) (tail : Instructions) (rest : List Instruction) → map (λ i. i.1) tail ≡ instruction.Calc (calc_of operation) kind.Int ∷ rest → Leads rest tail (Int right ∷ Int left ∷ stack) (Int (calculate operation left right) ∷ stack) (λ more. suc more)
   calculations operation left right stack [] rest is = absurd (cc)
@@ -205,9 +234,9 @@ module _ (headers : List Header) (code : Code) (numbers : List ℤ) (state : Sta
       record { left = tail; spelled = cc; ran = λ more. by operation here more }
     where
       by : (one : Operation) → first.1 ≡ instruction.Calc (calc_of one) kind.Int → (more : ℕ) → run (suc more) (first ∷ tail) (Int right ∷ Int left ∷ stack) ≡ run more tail (Int (calculate one left right) ∷ stack)
-      by Add here more = rw here refl
-      by Sub here more = rw here refl
-      by Mul here more = rw here refl
+      by Add here more = subst (λ i. run (suc more) ((first.0, i) ∷ tail) (Int right ∷ Int left ∷ stack) ≡ run more tail (Int (calculate Add left right) ∷ stack)) (sym here) refl
+      by Sub here more = subst (λ i. run (suc more) ((first.0, i) ∷ tail) (Int right ∷ Int left ∷ stack) ≡ run more tail (Int (calculate Sub left right) ∷ stack)) (sym here) refl
+      by Mul here more = subst (λ i. run (suc more) ((first.0, i) ∷ tail) (Int right ∷ Int left ∷ stack) ≡ run more tail (Int (calculate Mul left right) ∷ stack)) (sym here) refl
 
   -- the code of a formula puts its number on the stack
   leads : (formula : Formula) (stack : List Value) (tail : Instructions) (rest : List Instruction) → UsesParameters (length numbers) formula → map (λ i. i.1) tail ≡ postfix formula ++ rest → Leads rest tail stack (Int (meaning numbers formula) ∷ stack) (with_formula formula)
@@ -229,7 +258,8 @@ module _ (headers : List Header) (code : Code) (numbers : List ℤ) (state : Sta
       → (more : ℕ) → run (suc more) tail (Int number ∷ []) ≡ Is (Some (Int number)) state
   ends_with number [] int is more = absurd (cc)
   ends_with number (first ∷ rest) int is more =
-      let here : first.1 ≡ instruction.Return (Some kind.Int) = cc in rw (here, int) refl
+      let here : first.1 ≡ instruction.Return (Some kind.Int) = cc in
+      subst (λ i. run (suc more) ((first.0, i) ∷ rest) (Int number ∷ []) ≡ Is (Some (Int number)) state) (sym here) (rw int refl)
 
 -- the code has returned a number after so many steps, not fewer than these
 record Returns (headers : List Header) (code : Code) (arguments : List Value) (answers : List Answer) (number : ℤ) (least : ℕ) : Type 0 where

@@ -1,4 +1,3 @@
-use Rattle.std.proofs.Common.{refl}
 use Rattle.dj_straight.proofs.StraightLaws.{empty_breaks, breaks_before, viewed_last}
 use Rattle.dj_straight.proofs.straight.straight_body.Goals as goal
 
