@@ -1,4 +1,5 @@
 pub mod ClassTextLemmas
+pub mod FindingLemmas
 pub mod MethodsLemmas
 pub mod PiecesLemmas
 pub mod TellingLemmas

@@ -12,15 +12,15 @@ use Rattle.dj_cli.specs.Output.{PrintsClass, bodies_of}
 use Rattle.dj_cli.specs.Methods.{AreJudged}
 use Rattle.dj_cli.proofs.ClassTextLemmas.{unit_well_formed}
 
-module _ (class : ClassOf) (texts : List MethodText) (lines : List ℕ) (unit : CompilationUnit) (part : IsClassPart class) (judged : AreJudged class class.methods texts lines) (made : (bodies : List (Option Body)) → texts ≡ printed_methods class.methods bodies → IsClassText class bodies unit) (simple : All (λ letter. letter ≢ 47) unit.name) where
+module _ (world : WorldOf) (class : ClassOf) (texts : List MethodText) (lines : List ℕ) (unit : CompilationUnit) (part : IsClassPart class) (judged : AreJudged world class class.methods texts lines) (made : (bodies : List (Option Body)) → texts ≡ printed_methods class.methods bodies → IsClassText class bodies unit) (simple : All (λ letter. letter ≢ 47) unit.name) where
   pub well_formed : IsWellFormed unit
   well_formed =
       unit_well_formed class (bodies_of judged.verdicts) unit part.flags part.name (made (bodies_of judged.verdicts) judged.texts_are) simple (rw judged.texts_are at judged.well_formed)
 
-  pub prints_class : (world : WorldOf) → PrintsClass world class (record { text = file_line class.this_class ++ unit_text unit; lines = lines })
-  prints_class world = record {
+  pub prints_class : PrintsClass world class (record { text = file_line class.this_class ++ unit_text unit; lines = lines })
+  prints_class = record {
     verdicts = judged.verdicts;
-    judged = judged.judged world;
+    judged = judged.judged;
     unit = unit;
     class_text = made (bodies_of judged.verdicts) judged.texts_are;
     well_formed = well_formed;

@@ -9,7 +9,12 @@ use Rattle.dj_syntax.specs.Trees.{Exp, Body, CompilationUnit}
 use Rattle.dj_syntax.specs.UnitText.{unit_text}
 use Rattle.dj_syntax.specs.WellFormed.{IsWellFormed}
 use Rattle.dj_instructions.specs.declared.kinds.BadKind.{BadKind}
-use Rattle.dj_code.specs.ReadCode.{FirstCodeFault}
+use Rattle.dj_frames.specs.Frames.{Frame}
+use Rattle.dj_code.specs.MethodCode.{Code}
+use Rattle.dj_code.specs.ReadCode.{SpellsCode, FirstCodeFault}
+use Rattle.dj_tags.specs.Laxly.{Laxly}
+use Rattle.dj_verify.specs.declared.rule.Rule.{Rule}
+use Rattle.dj_verify.specs.Table.{IsFrameTable, IsFirstViolation}
 use Rattle.dj_bytecode.specs.SameShows.{SameShows}
 use Rattle.dj_straight.specs.StraightMethod.{IsStraightMethod, IsNotYet, IsBodyOf}
 use Rattle.dj_unit.specs.ClassText.{IsClassText, file_line}
@@ -29,12 +34,19 @@ pub record Piece : Type 0 where
 pub data Verdict : Type 0 where
   Prints : Body → Verdict
   Bad : BadKind → ℕ → Verdict
+  Unverified : Rule → ℕ → Verdict
   NotYet : ℕ → Verdict
 
--- a straight method of a class, and its body, which shows the same as its code in the world, at every bound, whatever classes may run besides, for all arguments that fit and all answers
+-- code is verified in the world: it has a table of frames, by what the machine asks of references
+pub record IsVerified (world : WorldOf) (code : Code) : Type 0 where
+  pub frames : List Frame
+  pub table : IsFrameTable (Laxly world.headers) world.headers code frames
+
+-- a straight method of a class whose code is verified in the world, and its body, which shows the same as its code there, at every bound, whatever classes may run besides, for all arguments that fit and all answers
 pub record PrintsMethod (world : WorldOf) (class : ClassOf) (before : List MethodOf) (method : MethodOf) (body : Body) : Type 0 where
   pub exp : Exp
   pub straight : IsStraightMethod class before method exp
+  pub verified : IsVerified world straight.code
   pub of_method : IsBodyOf class method exp body
   pub shows : SameShows world.headers world.members straight.code body
 
@@ -43,11 +55,23 @@ pub record IsBadMethod (class : ClassOf) (method : MethodOf) (kind : BadKind) (p
   pub some : IsSome method.code
   pub first : FirstCodeFault class method kind pc
 
--- the verdict on a method of a class, those before it in the file given: it is printed, or its code is bad, or it isn't straight at this offset of its code
+-- a method has code that isn't verified in the world, and this is the first rule that it breaks, at this offset
+pub record IsUnverifiedMethod (world : WorldOf) (class : ClassOf) (method : MethodOf) (rule : Rule) (pc : ℕ) : Type 0 where
+  pub code : Code
+  pub spelled : SpellsCode class method code
+  pub first : IsFirstViolation (Laxly world.headers) world.headers code pc rule
+
+-- a method isn't straight at this offset of its code, which is verified in the world where it has one
+pub record IsNotYetMethod (world : WorldOf) (class : ClassOf) (before : List MethodOf) (method : MethodOf) (pc : ℕ) : Type 0 where
+  pub not_yet : IsNotYet class before method pc
+  pub verified : (code : Code) → SpellsCode class method code → IsVerified world code
+
+-- the verdict on a method of a class, those before it in the file given: it is printed, or its code is bad, or it isn't verified, or the method isn't straight at this offset of its code
 abbrev pub IsVerdict : WorldOf → ClassOf → List MethodOf → MethodOf → Verdict → Type 0
 IsVerdict world class before method (Prints body) = PrintsMethod world class before method body
 IsVerdict world class before method (Bad kind pc) = IsBadMethod class method kind pc
-IsVerdict world class before method (NotYet pc) = IsNotYet class before method pc
+IsVerdict world class before method (Unverified rule pc) = IsUnverifiedMethod world class method rule pc
+IsVerdict world class before method (NotYet pc) = IsNotYetMethod world class before method pc
 
 -- one verdict for each method, in file order
 abbrev pub AreVerdicts : WorldOf → ClassOf → List MethodOf → List MethodOf → List Verdict → Type 0
@@ -61,6 +85,7 @@ AreVerdicts world class before (method ∷ methods) (verdict ∷ verdicts) =
 abbrev pub body_of : Verdict → Option Body
 body_of (Prints body) = Some body
 body_of (Bad kind pc) = None
+body_of (Unverified rule pc) = None
 body_of (NotYet pc) = None
 
 -- the same of each method
@@ -71,6 +96,7 @@ bodies_of verdicts = map body_of verdicts
 abbrev pub method_line : ClassOf → MethodOf → Verdict → List ℕ
 method_line class method (Prints body) = []
 method_line class method (Bad kind pc) = line_text (report.BadMethod class.this_class method.name method.descriptor kind pc)
+method_line class method (Unverified rule pc) = line_text (report.UnverifiedMethod class.this_class method.name method.descriptor rule pc)
 method_line class method (NotYet pc) = line_text (report.NotYetMethod class.this_class method.name method.descriptor pc)
 
 -- the lines on methods, in file order
@@ -82,7 +108,7 @@ method_lines class (method ∷ methods) (verdict ∷ verdicts) =
 
 -- ---- a file
 
--- a class is printed with exactly its straight methods: its unit is well formed, no other well formed unit has its text, and each other method has its line
+-- a class is printed with exactly its straight methods that are verified: its unit is well formed, no other well formed unit has its text, and each other method has its line
 pub record PrintsClass (world : WorldOf) (class : ClassOf) (piece : Piece) : Type 0 where
   pub verdicts : List Verdict
   pub judged : AreVerdicts world class [] class.methods verdicts

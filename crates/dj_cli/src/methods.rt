@@ -9,15 +9,19 @@ ghost use Rattle.dj_syntax.specs.Trees.{view_body, view_exp};
 ghost use Rattle.dj_unit.specs.ClassText.{method_text};
 ghost use Rattle.dj_code.specs.MethodCode.{view_code};
 ghost use Rattle.dj_code.specs.ReadCode.{SpellsCode};
+ghost use Rattle.dj_world.specs.Worlds.{WorldOf};
 ghost use Rattle.dj_straight.specs.DeclaredMethods.{Holds};
+ghost use Rattle.dj_cli.specs.Output.{IsVerified};
 ghost use Rattle.dj_cli.specs.Methods.{AreJudged, IsFound, IsTextOf, IsToldOf, lines_bytes};
 
 use dj_class::{ClassFile, Method};
 use dj_code::{BadKind, Code, CodeFault, read_code_of};
 use dj_names::{Items, MethodHead, copy_names};
-use dj_report::{bad_tail, not_yet_tail};
+use dj_report::{bad_tail, not_yet_tail, unverified_tail};
 use dj_straight::{Declared, Judged, judge, returning_body};
 use dj_syntax::{Body, Exp, MethodText, method_bits};
+use dj_verify::{Rule, VerifyFault, verify};
+use dj_world::World;
 use std::alloc::{AllocError, Global};
 
 /// The line on a method that isn't printed.
@@ -44,6 +48,8 @@ enum Finding {
     Straight(Exp),
     /// Its code has this fault first, at this offset.
     Bad { pc: u32, kind: BadKind },
+    /// Its code breaks this rule first, at this offset.
+    Unverified { pc: u32, rule: Rule },
     /// It isn't straight at this offset of its code.
     NotYet(u32),
 }
@@ -97,8 +103,9 @@ fn returning_text(
     method_text(alloc, method, body)
 }
 
-/// What is found of a method that has this code, where the table holds those before it; it is put into the table.
-fn find_spelled<'a>(
+/// What is found of a method that has this code where it is verified, and where the table holds those before it; it is
+/// put into the table.
+fn find_verified<'a>(
     alloc: Global,
     class: &ClassFile,
     declared: &mut Declared<'a>,
@@ -106,7 +113,7 @@ fn find_spelled<'a>(
     code: &Code,
 ) -> Result<Finding, AllocError>
     requires spelled { SpellsCode (view_class class.now) (view_method method.now) (view_code code.now) }
-    ensures found { IfOk result (λ found. (before : List MethodOf) → Holds declared.old before → IsFound (view_class class.now) before (view_method method.now) found) }
+    ensures found { IfOk result (λ found. (world : WorldOf) (before : List MethodOf) → IsVerified world (view_code code.now) → Holds declared.old before → IsFound world (view_class class.now) before (view_method method.now) found) }
     ensures declared { OnOk result ((before : List MethodOf) → Holds declared.old before → Holds declared.new (before ++ view_method method.now ∷ [])) }
 {
     match judge(alloc, class, declared, method, code)? {
@@ -115,19 +122,43 @@ fn find_spelled<'a>(
     }
 }
 
+/// What is found of a method that has this code, where the table holds those before it; it is put into the table.
+fn find_spelled<'a>(
+    alloc: Global,
+    world: &World,
+    class: &ClassFile,
+    declared: &mut Declared<'a>,
+    method: &'a Method,
+    code: Code,
+) -> Result<Finding, AllocError>
+    requires spelled { SpellsCode (view_class class.now) (view_method method.now) (view_code code) }
+    ensures found { IfOk result (λ found. (before : List MethodOf) → Holds declared.old before → IsFound world.now (view_class class.now) before (view_method method.now) found) }
+    ensures declared { OnOk result ((before : List MethodOf) → Holds declared.old before → Holds declared.new (before ++ view_method method.now ∷ [])) }
+{
+    match verify(alloc, world.headers(), code) {
+        Ok(typed) => find_verified(alloc, class, declared, method, &typed.code),
+        Err(VerifyFault::Unverified { pc, rule }) => {
+            declared.admit(method)?;
+            Ok(Finding::Unverified { pc, rule })
+        }
+        Err(VerifyFault::Memory(error)) => Err(error),
+    }
+}
+
 /// What is found of a method with code, where the table holds those before it; it is put into the table.
 fn find_coded<'a>(
     alloc: Global,
+    world: &World,
     class: &ClassFile,
     declared: &mut Declared<'a>,
     method: &'a Method,
 ) -> Result<Finding, AllocError>
     requires coded { IsSome method.now.code }
-    ensures found { IfOk result (λ found. (before : List MethodOf) → Holds declared.old before → IsFound (view_class class.now) before (view_method method.now) found) }
+    ensures found { IfOk result (λ found. (before : List MethodOf) → Holds declared.old before → IsFound world.now (view_class class.now) before (view_method method.now) found) }
     ensures declared { OnOk result ((before : List MethodOf) → Holds declared.old before → Holds declared.new (before ++ view_method method.now ∷ [])) }
 {
     match read_code_of(alloc, class, method) {
-        Ok(code) => find_spelled(alloc, class, declared, method, &code),
+        Ok(code) => find_spelled(alloc, world, class, declared, method, code),
         Err(CodeFault::BadCode { pc, kind }) => {
             declared.admit(method)?;
             Ok(Finding::Bad { pc, kind })
@@ -139,15 +170,16 @@ fn find_coded<'a>(
 /// What is found of a method, where the table holds those before it; it is put into the table.
 fn find<'a>(
     alloc: Global,
+    world: &World,
     class: &ClassFile,
     declared: &mut Declared<'a>,
     method: &'a Method,
 ) -> Result<Finding, AllocError>
-    ensures found { IfOk result (λ found. (before : List MethodOf) → Holds declared.old before → IsFound (view_class class.now) before (view_method method.now) found) }
+    ensures found { IfOk result (λ found. (before : List MethodOf) → Holds declared.old before → IsFound world.now (view_class class.now) before (view_method method.now) found) }
     ensures declared { OnOk result ((before : List MethodOf) → Holds declared.old before → Holds declared.new (before ++ view_method method.now ∷ [])) }
 {
     match &method.code {
-        Some(_) => find_coded(alloc, class, declared, method),
+        Some(_) => find_coded(alloc, world, class, declared, method),
         None => {
             declared.admit(method)?;
             Ok(Finding::NotYet(0))
@@ -162,11 +194,12 @@ fn told_of(
     method: &Method,
     found: Finding,
 ) -> Result<Told, AllocError>
-    ensures told { (before : List MethodOf) → IsFound (view_class class.now) before (view_method method.now) found → IfOk result (IsToldOf (view_class class.now) before (view_method method.now)) }
+    ensures told { (world : WorldOf) (before : List MethodOf) → IsFound world (view_class class.now) before (view_method method.now) found → IfOk result (IsToldOf world (view_class class.now) before (view_method method.now)) }
 {
     match found {
         Finding::Straight(exp) => Ok(Told::Text(returning_text(alloc, class, method, exp)?)),
         Finding::Bad { pc, kind } => Ok(Told::Line(bad_tail(alloc, kind, pc)?)),
+        Finding::Unverified { pc, rule } => Ok(Told::Line(unverified_tail(alloc, rule, pc)?)),
         Finding::NotYet(pc) => Ok(Told::Line(not_yet_tail(alloc, pc)?)),
     }
 }
@@ -174,28 +207,33 @@ fn told_of(
 /// What is told of a method, where the table holds those before it; it is put into the table.
 fn judge_method<'a>(
     alloc: Global,
+    world: &World,
     class: &ClassFile,
     declared: &mut Declared<'a>,
     method: &'a Method,
 ) -> Result<Told, AllocError>
-    ensures told { IfOk result (λ told. (before : List MethodOf) → Holds declared.old before → IsToldOf (view_class class.now) before (view_method method.now) told) }
+    ensures told { IfOk result (λ told. (before : List MethodOf) → Holds declared.old before → IsToldOf world.now (view_class class.now) before (view_method method.now) told) }
     ensures declared { OnOk result ((before : List MethodOf) → Holds declared.old before → Holds declared.new (before ++ view_method method.now ∷ [])) }
 {
-    let found = find(alloc, class, declared, method)?;
+    let found = find(alloc, world, class, declared, method)?;
     let told = told_of(alloc, class, method, found)?;
     Ok(told)
 }
 
-/// What is found of the methods of a class.
-pub fn judge_methods(alloc: Global, class: &ClassFile) -> Result<Judgement<'_>, AllocError>
+/// What is found of the methods of a class in the world.
+pub fn judge_methods<'a>(
+    alloc: Global,
+    world: &World,
+    class: &'a ClassFile,
+) -> Result<Judgement<'a>, AllocError>
     requires flags { All (λ method. (method.flags ≡ 0x8) ⊎ (method.flags ≡ 0x9)) (view_class class.now).methods }
-    ensures judged { IfOk result (λ found. AreJudged (view_class class.now) (view_class class.now).methods (map trees.view_method found.texts) (lines_bytes class.now.this_class found.lines.items)) }
+    ensures judged { IfOk result (λ found. AreJudged world.now (view_class class.now) (view_class class.now).methods (map trees.view_method found.texts) (lines_bytes class.now.this_class found.lines.items)) }
 {
     let mut texts = Items::new(alloc);
     let mut lines = Vec::new(alloc);
     let mut declared = Declared::new(alloc);
     for method in class.methods.as_slice() {
-        match judge_method(alloc, class, &mut declared, method)? {
+        match judge_method(alloc, world, class, &mut declared, method)? {
             Told::Text(text) => texts.push(text)?,
             Told::Line(tail) => lines.push(MethodLine { method, tail })?,
         }

@@ -2,7 +2,6 @@
 
 ghost use Rattle.std.specs.Prelude.{◌≡◌, ◌<◌, All, IfOk};
 ghost use Rattle.dj_class.specs.Views.{view_class};
-ghost use Rattle.dj_world.specs.Worlds.{WorldOf};
 ghost use Rattle.dj_unit.specs.ClassPart.{IsClassPart};
 ghost use Rattle.dj_cli.specs.Output.{PrintsClass};
 ghost use Rattle.dj_cli.specs.Pieces.{piece_of, piece_of_parts};
@@ -15,6 +14,7 @@ use dj_names::ClassName;
 use dj_print::unit_bytes;
 use dj_syntax::Unit;
 use dj_unit::{class_unit, file_line};
+use dj_world::World;
 use std::alloc::{AllocError, Global};
 
 /// What is told of a class.
@@ -27,12 +27,16 @@ pub struct ClassPiece<'a> {
     pub lines: Vec<MethodLine<'a>>,
 }
 
-/// What is told of a class.
-pub fn piece_of_class(alloc: Global, class: &ClassFile) -> Result<ClassPiece<'_>, AllocError>
+/// What is told of a class of the world.
+pub fn piece_of_class<'a>(
+    alloc: Global,
+    world: &World,
+    class: &'a ClassFile,
+) -> Result<ClassPiece<'a>, AllocError>
     requires part { IsClassPart (view_class class.now) }
-    ensures printed { (world : WorldOf) → IfOk result (λ piece. PrintsClass world (view_class class.now) (piece_of class.now.this_class piece)) }
+    ensures printed { IfOk result (λ piece. PrintsClass world.now (view_class class.now) (piece_of class.now.this_class piece)) }
 {
-    let Judgement { texts, lines } = judge_methods(alloc, class)?;
+    let Judgement { texts, lines } = judge_methods(alloc, world, class)?;
     let unit = class_unit(alloc, class, texts)?;
     let piece = piece_of_unit(alloc, &class.this_class, &unit, lines)?;
     Ok(piece)

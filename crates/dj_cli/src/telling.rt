@@ -22,7 +22,7 @@ use dj_names::ClassName;
 use dj_outer::{Failed, Sink};
 use dj_report::{broken_line, clash_line, put_class_line, put_method_line, put_piece};
 use dj_unit::is_class_part;
-use dj_world::ClashKind;
+use dj_world::{ClashKind, World};
 use std::alloc::{AllocError, Global};
 
 /// Why not everything was told.
@@ -75,20 +75,21 @@ fn put_lines<P: Sink>(report: &mut P, class: &ClassName, lines: &[MethodLine]) -
 /// has a line.
 fn tell_printed<T: Sink, P: Sink>(
     alloc: Global,
+    world: &World,
     class: &ClassFile,
     text: &mut T,
     report: &mut P,
 ) -> Result<bool, TellStop>
     requires part { IsClassPart (view_class class.now) }
-    ensures told { (world : WorldOf) → IfOk result (λ refused. TellsPiece (IsClassPiece world (view_class class.now)) refused (T.taken text.old) (T.taken text.new) (P.taken report.old) (P.taken report.new)) }
-    ensures stopped { (world : WorldOf) → IfErr result (λ stop. StopsPiece (IsClassPiece world (view_class class.now)) stop (T.taken text.old) (T.taken text.new) (P.taken report.old) (P.taken report.new)) }
+    ensures told { IfOk result (λ refused. TellsPiece (IsClassPiece world.now (view_class class.now)) refused (T.taken text.old) (T.taken text.new) (P.taken report.old) (P.taken report.new)) }
+    ensures stopped { IfErr result (λ stop. StopsPiece (IsClassPiece world.now (view_class class.now)) stop (T.taken text.old) (T.taken text.new) (P.taken report.old) (P.taken report.new)) }
     ensures failed { IfErr result (λ stop. StoppedTelling stop (Rose (T.faults text.old) (T.faults text.new)) (Rose (P.faults report.old) (P.faults report.new)) (Unit {0})) }
 
     // What the call leaves.
     ensures text_falls { T.faults text.old ≤ T.faults text.new }
     ensures report_falls { P.faults report.old ≤ P.faults report.new }
 {
-    let piece = piece_of_class(alloc, class)?;
+    let piece = piece_of_class(alloc, world, class)?;
     if let Err(Failed) = put_text(text, &piece) {
         return Err(TellStop::Text);
     }
@@ -115,12 +116,13 @@ fn tell_not_yet<P: Sink>(class: &ClassFile, report: &mut P) -> Result<bool, Tell
 /// Tells the piece of a class; whether it has a line.
 fn tell_class<T: Sink, P: Sink>(
     alloc: Global,
+    world: &World,
     class: &ClassFile,
     text: &mut T,
     report: &mut P,
 ) -> Result<bool, TellStop>
-    ensures told { (world : WorldOf) → IfOk result (λ refused. TellsPiece (IsClassPiece world (view_class class.now)) refused (T.taken text.old) (T.taken text.new) (P.taken report.old) (P.taken report.new)) }
-    ensures stopped { (world : WorldOf) → IfErr result (λ stop. StopsPiece (IsClassPiece world (view_class class.now)) stop (T.taken text.old) (T.taken text.new) (P.taken report.old) (P.taken report.new)) }
+    ensures told { IfOk result (λ refused. TellsPiece (IsClassPiece world.now (view_class class.now)) refused (T.taken text.old) (T.taken text.new) (P.taken report.old) (P.taken report.new)) }
+    ensures stopped { IfErr result (λ stop. StopsPiece (IsClassPiece world.now (view_class class.now)) stop (T.taken text.old) (T.taken text.new) (P.taken report.old) (P.taken report.new)) }
     ensures failed { IfErr result (λ stop. StoppedTelling stop (Rose (T.faults text.old) (T.faults text.new)) (Rose (P.faults report.old) (P.faults report.new)) (Unit {0})) }
 
     // What the call leaves.
@@ -128,7 +130,7 @@ fn tell_class<T: Sink, P: Sink>(
     ensures report_falls { P.faults report.old ≤ P.faults report.new }
 {
     if is_class_part(class) {
-        tell_printed(alloc, class, text, report)
+        tell_printed(alloc, world, class, text, report)
     } else {
         tell_not_yet(class, report)
     }
@@ -176,13 +178,14 @@ fn tell_clash<P: Sink>(
 /// Tells the piece of a file of this path; whether it has a line.
 fn tell_file<T: Sink, P: Sink>(
     alloc: Global,
+    world: &World,
     path: &str,
     found: &Found,
     text: &mut T,
     report: &mut P,
 ) -> Result<bool, TellStop>
-    ensures told { (world : WorldOf) → IfOk result (λ refused. TellsPiece (IsFilePiece world path.now (found_of found.now)) refused (T.taken text.old) (T.taken text.new) (P.taken report.old) (P.taken report.new)) }
-    ensures stopped { (world : WorldOf) → IfErr result (λ stop. StopsPiece (IsFilePiece world path.now (found_of found.now)) stop (T.taken text.old) (T.taken text.new) (P.taken report.old) (P.taken report.new)) }
+    ensures told { IfOk result (λ refused. TellsPiece (IsFilePiece world.now path.now (found_of found.now)) refused (T.taken text.old) (T.taken text.new) (P.taken report.old) (P.taken report.new)) }
+    ensures stopped { IfErr result (λ stop. StopsPiece (IsFilePiece world.now path.now (found_of found.now)) stop (T.taken text.old) (T.taken text.new) (P.taken report.old) (P.taken report.new)) }
     ensures failed { IfErr result (λ stop. StoppedTelling stop (Rose (T.faults text.old) (T.faults text.new)) (Rose (P.faults report.old) (P.faults report.new)) (Unit {0})) }
 
     // What the call leaves.
@@ -190,7 +193,7 @@ fn tell_file<T: Sink, P: Sink>(
     ensures report_falls { P.faults report.old ≤ P.faults report.new }
 {
     match found {
-        Found::Class(class) => tell_class(alloc, class, text, report),
+        Found::Class(class) => tell_class(alloc, world, class, text, report),
         Found::Clash(kind) => tell_clash(alloc, path, *kind, report),
         Found::Broken { kind, offset } => tell_broken(alloc, path, *kind, *offset, report),
     }
@@ -216,7 +219,14 @@ pub fn tell_files<T: Sink, P: Sink>(
     let found = files.found.as_slice();
     let mut refused = false;
     for place in 0..named.len() {
-        let one = tell_file(alloc, named[place].as_str(), &found[place], text, report)?;
+        let one = tell_file(
+            alloc,
+            &files.world,
+            named[place].as_str(),
+            &found[place],
+            text,
+            report,
+        )?;
         refused |= one;
     }
     Ok(refused)

@@ -11,19 +11,22 @@ use Rattle.dj_pool.specs.declared.fault.BrokenKind.{BrokenKind}
 use Rattle.dj_pool.specs.declared.fault.BrokenKind.TheVariants as broken
 use Rattle.dj_instructions.specs.declared.kinds.BadKind.{BadKind}
 use Rattle.dj_instructions.specs.declared.kinds.BadKind.TheVariants as bad
+use Rattle.dj_verify.specs.declared.rule.Rule.{Rule}
+use Rattle.dj_verify.specs.declared.rule.Rule.TheVariants as rule
 use Rattle.dj_world.specs.declared.fault.ClashKind.{ClashKind}
 use Rattle.dj_world.specs.declared.fault.ClashKind.TheVariants as clash
 use Rattle.dj_report.specs.declared.status.UsageKind.{UsageKind}
 use Rattle.dj_report.specs.declared.status.UsageKind.TheVariants as kind
 
 -- a line of the report: on a class by its name, on a method by its class's name, its own name and its
--- descriptor, with an offset in its code and, where its code is bad, with what is wrong there, on a file that
--- is broken by its path, with what is wrong and an offset, on one whose class clashes with others by its path,
--- with how, on the words, and on a file by its place
+-- descriptor, with an offset in its code and, where its code is bad or not verified, with what is wrong there,
+-- on a file that is broken by its path, with what is wrong and an offset, on one whose class clashes with others
+-- by its path, with how, on the words, and on a file by its place
 pub data Line : Type 0 where
   NotYetClass : List ℕ → Line
   NotYetMethod : List ℕ → List ℕ → Descriptor → ℕ → Line
   BadMethod : List ℕ → List ℕ → Descriptor → BadKind → ℕ → Line
+  UnverifiedMethod : List ℕ → List ℕ → Descriptor → Rule → ℕ → Line
   Broken : List ℕ → BrokenKind → ℕ → Line
   Clash : List ℕ → ClashKind → Line
   Usage : UsageKind → Line
@@ -69,6 +72,16 @@ bad_text bad.Target = codes "Target"
 bad_text bad.Range = codes "Range"
 bad_text bad.Frame = codes "Frame"
 
+-- the word for a rule of type checking
+abbrev pub rule_text : Rule → List ℕ
+rule_text rule.NoFrame = codes "NoFrame"
+rule_text rule.Into = codes "Into"
+rule_text rule.Operands = codes "Operands"
+rule_text rule.Room = codes "Room"
+rule_text rule.Target = codes "Target"
+rule_text rule.Handler = codes "Handler"
+rule_text rule.Past = codes "Past"
+
 -- how a line names a method of a class
 abbrev pub shown_method : List ℕ → List ℕ → Descriptor → List ℕ
 shown_method class name descriptor = show_units class ++ codes "." ++ show_units name ++ show_units (spell_descriptor descriptor)
@@ -81,11 +94,16 @@ not_yet_tail pc = codes " notyet " ++ decimal pc ++ 10 ∷ []
 abbrev pub bad_tail : BadKind → ℕ → List ℕ
 bad_tail kind pc = codes " bad " ++ bad_text kind ++ codes " " ++ decimal pc ++ 10 ∷ []
 
+-- the end of the line on a method whose code isn't verified, by the first rule that it breaks, at this offset
+abbrev pub unverified_tail : Rule → ℕ → List ℕ
+unverified_tail broken pc = codes " unverified " ++ rule_text broken ++ codes " " ++ decimal pc ++ 10 ∷ []
+
 -- a line with its end
 abbrev pub line_text : Line → List ℕ
 line_text (NotYetClass class) = show_units class ++ codes " notyet" ++ 10 ∷ []
 line_text (NotYetMethod class name descriptor pc) = shown_method class name descriptor ++ not_yet_tail pc
 line_text (BadMethod class name descriptor kind pc) = shown_method class name descriptor ++ bad_tail kind pc
+line_text (UnverifiedMethod class name descriptor broken pc) = shown_method class name descriptor ++ unverified_tail broken pc
 line_text (Broken path kind offset) =
     show_units (path_units path) ++ codes " broken " ++ broken_text kind ++ codes " " ++ decimal offset ++ 10 ∷ []
 line_text (Clash path kind) = show_units (path_units path) ++ codes " clash " ++ clash_text kind ++ 10 ∷ []

@@ -3,7 +3,7 @@
 ghost use Rattle.std.specs.Prelude.{◌≡◌, ◌++◌, IfOk, string_bytes};
 ghost use Rattle.dj_names.specs.Types.{view_descriptor};
 ghost use Rattle.dj_outer.specs.Sink.{Puts};
-ghost use Rattle.dj_report.specs.Report.{Line, bad_tail, bad_text, broken_text, clash_text, kind_text, line_text, not_yet_tail, path_units, shown_method};
+ghost use Rattle.dj_report.specs.Report.{Line, bad_tail, bad_text, broken_text, clash_text, kind_text, line_text, not_yet_tail, path_units, rule_text, shown_method, unverified_tail};
 
 use crate::putting::{put_descriptor, put_piece, put_units};
 use crate::status::UsageKind;
@@ -11,6 +11,7 @@ use dj_instructions::BadKind;
 use dj_names::{ClassName, Descriptor, Units};
 use dj_outer::{Failed, Sink};
 use dj_pool::BrokenKind;
+use dj_verify::Rule;
 use dj_world::ClashKind;
 use std::alloc::{AllocError, Global};
 
@@ -113,6 +114,29 @@ pub fn bad_tail(alloc: Global, kind: BadKind, pc: u32) -> Result<String, AllocEr
 {
     let kind = bad_text(kind);
     format!(in alloc; " bad {kind} {pc}\n")
+}
+
+/// The word for a rule of type checking.
+fn rule_text(rule: Rule) -> &'static str
+    ensures text { result.now ≡ rule_text rule }
+{
+    match rule {
+        Rule::NoFrame => "NoFrame",
+        Rule::Into => "Into",
+        Rule::Operands => "Operands",
+        Rule::Room => "Room",
+        Rule::Target => "Target",
+        Rule::Handler => "Handler",
+        Rule::Past => "Past",
+    }
+}
+
+/// The end of the line on a method whose code isn't verified, by the first rule that it breaks, at this offset.
+pub fn unverified_tail(alloc: Global, rule: Rule, pc: u32) -> Result<String, AllocError>
+    ensures tail { IfOk result (λ tail. string_bytes tail ≡ unverified_tail rule pc) }
+{
+    let rule = rule_text(rule);
+    format!(in alloc; " unverified {rule} {pc}\n")
 }
 
 /// Puts the line on a method of a class, by its name and its descriptor, with this end.

@@ -8,5 +8,5 @@ use Rattle.dj_cli.proofs.methods.judge_methods.Given as goal
 abbrev pub invariant-loop-method : goal.invariant-loop-method
 invariant-loop-method l = record {
   holds : Holds l.declared (take l.method-index (map view_method l.method-items));
-  judged : AreJudged (view_class l.class) (take l.method-index (map view_method l.method-items)) (map trees.view_method l.texts) (lines_bytes (view_class l.class).this_class l.lines.items);
+  judged : AreJudged l.world (view_class l.class) (take l.method-index (map view_method l.method-items)) (map trees.view_method l.texts) (lines_bytes (view_class l.class).this_class l.lines.items);
 }

@@ -19,7 +19,7 @@ piece_of_unit-requires-clause-well_formed c =
     let unit = view_unit c.in_ok-unit.unit in
     let texts = map trees.view_method c.in_ok-texts.field-0.texts in
     let lines = lines_bytes class.this_class c.in_ok-texts.field-0.lines.items in
-    well_formed class texts lines unit c.requires.part c.in_ok-texts.ensures.judged c.in_ok-unit.ensures.text c.in_ok-unit.ensures.simple
+    well_formed c.args.world.now class texts lines unit c.requires.part c.in_ok-texts.ensures.judged c.in_ok-unit.ensures.text c.in_ok-unit.ensures.simple
 
 pub returns : goal.returns
 returns c =
@@ -27,4 +27,4 @@ returns c =
     let unit = view_unit c.in_ok-unit.unit in
     let texts = map trees.view_method c.in_ok-texts.field-0.texts in
     let lines = lines_bytes class.this_class c.in_ok-texts.field-0.lines.items in
-    record { printed = λ world. rw c.in_ok-piece.ensures.piece (prints_class class texts lines unit c.requires.part c.in_ok-texts.ensures.judged c.in_ok-unit.ensures.text c.in_ok-unit.ensures.simple world) }
+    record { printed = rw c.in_ok-piece.ensures.piece (prints_class c.args.world.now class texts lines unit c.requires.part c.in_ok-texts.ensures.judged c.in_ok-unit.ensures.text c.in_ok-unit.ensures.simple) }

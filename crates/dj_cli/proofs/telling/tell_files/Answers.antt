@@ -26,7 +26,7 @@ returns-in_err-one-clause-stopped g c =
     let at_file = name_at found_of found i c.index-found-place.result in_found (rw c.as_slice-found.ensures.value at c.index-found-place.is) in
     let p = err_from_is_err_and c.from_residual.result c.from_residual.ensures.1 in
     rw (p.1, p.2)
-    (stops_telling (map string_bytes named) (all_found found) c.args.files.now.world i c.loop-place.refused (g.T.Sink.taken c.args.text.now) (g.T.Sink.taken c.loop-place.text) (g.T.Sink.taken c.tell_file.new.text) (g.P.Sink.taken c.args.report.now) (g.P.Sink.taken c.loop-place.report) (g.P.Sink.taken c.tell_file.new.report) c.loop-place.invariant.told (string_bytes c.index-named-place.result) (found_of c.index-found-place.result) at_name at_file c.in_err-one.field-0.0 ((rw c.as_str.ensures.value at c.in_err-one.ensures.stopped) c.args.files.now.world))
+    (stops_telling (map string_bytes named) (all_found found) c.args.files.now.world i c.loop-place.refused (g.T.Sink.taken c.args.text.now) (g.T.Sink.taken c.loop-place.text) (g.T.Sink.taken c.tell_file.new.text) (g.P.Sink.taken c.args.report.now) (g.P.Sink.taken c.loop-place.report) (g.P.Sink.taken c.tell_file.new.report) c.loop-place.invariant.told (string_bytes c.index-named-place.result) (found_of c.index-found-place.result) at_name at_file c.in_err-one.field-0.0 (rw c.as_str.ensures.value at c.in_err-one.ensures.stopped))
 
 pub loop-place-preserved : goal.loop-place-preserved
 loop-place-preserved g c =
@@ -40,7 +40,7 @@ loop-place-preserved g c =
     record {
       text_falls = omega arith;
       report_falls = omega arith;
-      told = told_more (map string_bytes named) (all_found found) c.args.files.now.world i c.loop-place.refused (g.T.Sink.taken c.args.text.now) (g.T.Sink.taken c.loop-place.text) (g.T.Sink.taken c.tell_file.new.text) (g.P.Sink.taken c.args.report.now) (g.P.Sink.taken c.loop-place.report) (g.P.Sink.taken c.tell_file.new.report) c.loop-place.invariant.told (string_bytes c.index-named-place.result) (found_of c.index-found-place.result) at_name at_file c.in_ok-one.one ((rw c.as_str.ensures.value at c.in_ok-one.ensures.told) c.args.files.now.world);
+      told = told_more (map string_bytes named) (all_found found) c.args.files.now.world i c.loop-place.refused (g.T.Sink.taken c.args.text.now) (g.T.Sink.taken c.loop-place.text) (g.T.Sink.taken c.tell_file.new.text) (g.P.Sink.taken c.args.report.now) (g.P.Sink.taken c.loop-place.report) (g.P.Sink.taken c.tell_file.new.report) c.loop-place.invariant.told (string_bytes c.index-named-place.result) (found_of c.index-found-place.result) at_name at_file c.in_ok-one.one (rw c.as_str.ensures.value at c.in_ok-one.ensures.told);
     }
 
 pub returns-clause-told : goal.returns-clause-told
