@@ -8,10 +8,10 @@ mod access;
 #[cfg(test)]
 mod choice;
 #[cfg(test)]
+mod circles;
+#[cfg(test)]
 mod classes;
 #[cfg(test)]
 mod search;
-#[cfg(test)]
-mod towers;
 #[cfg(test)]
 mod worlds;
