@@ -4,7 +4,7 @@
 use crate::types::{DescriptorText, TypeText};
 use anyhow::Result;
 use dj_headers::is_assignable;
-use dj_kinds::{MemberTable, choose};
+use dj_kinds::{Kinds, MemberTable, choose};
 use dj_names::{
     ClassMembers, ClassName, Descriptor, Header, Items, JType, Member, StaticType, Units,
     read_descriptor, read_units,
@@ -147,6 +147,30 @@ fn assignable(alloc: Global, world: &World, words: &[&str]) -> Result<String> {
     yes_or_no(alloc, is_assignable(world.headers(), &from, &to))
 }
 
+/// Whether the first class is a subclass of the second, or has it above it (`implements`).
+fn stands_above(alloc: Global, world: &World, words: &[&str]) -> Result<String> {
+    let [question, lower, upper] = words else {
+        return word(alloc, "none");
+    };
+    let lower = class_of(alloc, lower)?;
+    let upper = class_of(alloc, upper)?;
+    let kinds = Kinds::new(alloc, world.headers())?;
+    match *question {
+        "subclass" => yes_or_no(alloc, kinds.subclass(&lower, &upper)),
+        _ => yes_or_no(alloc, kinds.implements(&lower, &upper)),
+    }
+}
+
+/// Whether a method that throws a class must declare it.
+fn checked(alloc: Global, world: &World, words: &[&str]) -> Result<String> {
+    let [class] = words else {
+        return word(alloc, "none");
+    };
+    let class = class_of(alloc, class)?;
+    let kinds = Kinds::new(alloc, world.headers())?;
+    yes_or_no(alloc, kinds.checked(&class))
+}
+
 /// Adds the members of a class, where there are few.
 fn push_members(table: &mut MemberTable, class: ClassMembers) -> Result<()> {
     if table.members().classes.len() < MOST
@@ -219,7 +243,9 @@ pub fn answer(alloc: Global, world: &World, words: &[&str]) -> Result<String> {
     match *question {
         "accessible" => accessible(alloc, world, rest),
         "assignable" => assignable(alloc, world, rest),
+        "checked" => checked(alloc, world, rest),
         "choose" => tell(alloc, world, choose_method(alloc, world, rest)?),
+        "subclass" | "implements" => stands_above(alloc, world, words),
         _ => tell(alloc, world, find(alloc, world, words)?),
     }
 }
