@@ -8,7 +8,7 @@ use Rattle.dj_syntax.specs.Trees.{Exp, Body, MethodText}
 use Rattle.dj_syntax.specs.WellFormed.{IsWellFormedMethod}
 use Rattle.dj_instructions.specs.declared.kinds.BadKind.{BadKind}
 use Rattle.dj_straight.specs.StraightMethod.{IsBodyOf}
-use Rattle.dj_straight.proofs.StraightShows.{straight_methods_show}
+use Rattle.dj_straight_shows.proofs.StraightShows.{straight_methods_show}
 use Rattle.dj_unit.specs.ClassText.{method_text, printed_methods}
 use Rattle.dj_verify.specs.declared.rule.Rule.{Rule}
 use Rattle.dj_report.specs.Report.{shown_method, bad_tail, unverified_tail, not_yet_tail}

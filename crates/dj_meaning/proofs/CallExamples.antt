@@ -2,13 +2,13 @@
 use Rattle.std.proofs.Common.{◌≡◌, true, false, List, [], ◌∷◌, Some, None, refl}
 use Rattle.std.specs.Prelude.{pos, codes}
 use Rattle.dj_names.specs.Types as types
-use Rattle.dj_names.specs.Types.{JType, Class, Array, Method}
-use Rattle.dj_syntax.specs.Trees.{Exp, NoExps, This, Call, StaticCall, SuperCall, Stms, Empty, And, Set, SetField, SetStatic, SetElement, Run, Construct}
+use Rattle.dj_names.specs.Types.{Class, Array, Method}
+use Rattle.dj_syntax.specs.Trees.{NoExps, This, Call, StaticCall, SuperCall, Stms, And, Block, SetField, SetStatic, SetElement, Run, Construct}
 use Rattle.dj_syntax.specs.Trees as trees
-use Rattle.dj_values.specs.Values.{Int, Long, Ref, Virtual, Interface, Static, Special, Action, New, PutField, PutStatic, ArrayStore, Invoke, Trap, Given, Done, More, Return}
+use Rattle.dj_values.specs.Values.{Int, Long, Ref, Virtual, Interface, Static, Special, Action, New, PutField, PutStatic, ArrayStore, Invoke, Trap, Given, Done, End, More, Return}
 use Rattle.dj_values.specs.Outcomes.{shown}
 use Rattle.dj_meaning.specs.Runs.{◌>>=◌}
-use Rattle.dj_meaning.specs.Meaning.{run_all, ended}
+use Rattle.dj_meaning.specs.Meaning.{run_statements, ended}
 use Rattle.dj_meaning.proofs.ExampleWorld.{object_class, null_pointer, headers, members, object, this, ints, objects, scope, start, shows, parameter, int, one, only, gives}
 
 -- what statements without a result show, where the last action isn't answered
@@ -78,12 +78,27 @@ a_new_object = refl
 no_constructor : acts (only (Run (trees.New (codes "C") NoExps))) []
 no_constructor = refl
 
--- `super()` in a constructor
-a_constructor_call : shown ((run_all (record { headers = headers; members = members; class = codes "C"; result = None; this = Some (Ref this); constructs = true }) scope 0 (only (Construct false NoExps)) >>= ended None) (start (Done ∷ [])))
-    ≡ record { actions = Invoke Special (Class (codes "B")) (codes "<init>") (Method [] None) (Ref this ∷ []) ∷ []; end = Return None }
+-- what statements show as those of a constructor's body, where the call of another constructor is answered
+abbrev constructs : Stms → List Action → End → Type 0
+constructs list actions end =
+    shown ((run_statements (record { headers = headers; members = members; class = codes "C"; result = None; this = Some (Ref this); constructs = true }) scope 0 list >>= ended None) (start (Done ∷ [])))
+    ≡ record { actions = actions; end = end }
+
+-- `super()` in C
+abbrev above : Action
+above = Invoke Special (Class (codes "B")) (codes "<init>") (Method [] None) (Ref this ∷ [])
+
+a_constructor_call : constructs (only (Construct false NoExps)) (above ∷ []) (Return None)
 a_constructor_call = refl
 
--- elsewhere there is none
+-- it stands first, and nowhere else: not behind another one, not in a block
+a_second_constructor_call : constructs (And (Construct false NoExps) (only (Construct false NoExps))) (above ∷ []) More
+a_second_constructor_call = refl
+
+a_constructor_call_in_a_block : constructs (only (Block (only (Construct false NoExps)))) [] More
+a_constructor_call_in_a_block = refl
+
+-- in a method there is none
 no_constructor_call : acts (only (Construct false NoExps)) []
 no_constructor_call = refl
 
@@ -108,6 +123,10 @@ no_length_store = refl
 
 an_element_store : acts (only (SetElement (parameter 2) (int 1) (int 5))) (ArrayStore ints (pos 1) (Int (pos 5)) ∷ [])
 an_element_store = refl
+
+-- what is no array by its type is ruled out before anything is evaluated, as where an element is read
+no_element_store : acts (only (SetElement This (int 1) (Call This (codes "m") (one (int 5))))) []
+no_element_store = refl
 
 -- an array of C holds no exception
 a_wrong_element : acts (only (SetElement (parameter 4) (int 0) (parameter 5))) (Trap (codes "java/lang/ArrayStoreException") ∷ [])

@@ -1,6 +1,6 @@
 -- A tree completes only in the ways of its form.
-use Rattle.std.proofs.Common.{ℕ, zero, suc, ◌≡◌, ◌==◌, Bool, true, false, List, [], ◌∷◌, Option, Some, None, inl, inr, refl, subst}
-use Rattle.std.specs.Prelude.{◌||◌}
+use Rattle.std.proofs.Common.{ℕ, zero, suc, ◌≡◌, ◌==◌, Bool, true, false, List, [], ◌∷◌, Option, Some, None, inl, inr, refl, sym, subst}
+use Rattle.std.specs.Prelude.{◌&&◌, ◌||◌}
 use Rattle.std.proofs.lemmas.Bool.{cases_Bool, eqb-true}
 use Rattle.dj_names.specs.declared.header.Header.{Header}
 use Rattle.dj_syntax.specs.declared.variable.Var.{Var}
@@ -9,7 +9,7 @@ use Rattle.dj_values.specs.Outcomes.{Stop, Throws, More, Stuck, ask, State, Outc
 use Rattle.dj_meaning.specs.Runs.{Store, Meaning, pure, stop, ◌>>=◌, with, with_value, with_store, map_state, local}
 use Rattle.dj_meaning.specs.Expressions.{either}
 use Rattle.dj_meaning.specs.Completions.{Completion, Normal, Break, Continue, Return, Misfit, sequence, taken, is_own, next_turn, turns, do_turns, handled, finished, with_held, left_by, released, entered_on, holding}
-use Rattle.dj_meaning.specs.Ways.{Ways, one_of, both_of, labelled, repeated, May, EndsSo}
+use Rattle.dj_meaning.specs.Ways.{Ways, one_of, both_of, labelled, repeated, comes_round, May, EndsSo}
 
 -- a part completes in these ways alone
 pub record EndsIn (ways : Ways) (part : Meaning Completion) : Type 0 where
@@ -83,8 +83,8 @@ second-way first second Misfit e = tt
 
 behind-way : (first second : Ways) → first.falls ≡ true → (completion : Completion) → May second completion → May (both_of first second) completion
 behind-way first second f Normal e = rw (f, e) refl
-behind-way first second f (Break label) e = or_right (first.jumps label) (second.jumps label) e
-behind-way first second f (Continue label) e = or_right (first.goes_on label) (second.goes_on label) e
+behind-way first second f (Break label) e = rw f (or_right (first.jumps label) (second.jumps label) e)
+behind-way first second f (Continue label) e = rw f (or_right (first.goes_on label) (second.goes_on label) e)
 behind-way first second f (Return result) e = tt
 behind-way first second f Misfit e = tt
 
@@ -110,15 +110,24 @@ ends-taken own inner Misfit e = ends-pure (labelled own inner) Misfit tt
 
 -- ---- loops
 
+-- a body that goes on by a continue of the loop's label comes round
+own-round : (own : Option ℕ) (body : Ways) (label : ℕ) → is_own own label ≡ true → body.goes_on label ≡ true → comes_round own body ≡ true
+own-round None body label same e = absurd (cc)
+own-round (Some own) body label same e = or_right body.falls (body.goes_on own) (subst (λ one. body.goes_on one ≡ true) (eqb-true label own same) e)
+
+falls-round : (own : Option ℕ) (body : Ways) → body.falls ≡ true → comes_round own body ≡ true
+falls-round None body e = e
+falls-round (Some own) body e = rw e refl
+
 module _ (own : Option ℕ) (falls : Bool) (body_ways : Ways) where
   abbrev looped : Ways
   looped = repeated own falls body_ways
 
-  ends-next : {again : Meaning Completion} → EndsIn looped again → (completion : Completion) → May body_ways completion → EndsIn looped (next_turn own again completion)
-  ends-next h Normal e = h
+  ends-next : {again : Meaning Completion} → (comes_round own body_ways ≡ true → EndsIn looped again) → (completion : Completion) → May body_ways completion → EndsIn looped (next_turn own again completion)
+  ends-next h Normal e = h (falls-round own body_ways e)
   ends-next h (Break label) e = ends-pure looped (Break label) e
   ends-next h (Continue label) e = elim (cases_Bool (is_own own label)) [
-    | inl same ↦ (rw same h)
+    | inl same ↦ (rw same (h (own-round own body_ways label same e)))
     | inr differ ↦ (rw differ (ends-pure looped (Continue label) (rw differ e)))
   ]
   ends-next h (Return result) e = ends-pure looped (Return result) tt
@@ -131,12 +140,16 @@ module _ (own : Option ℕ) (falls : Bool) (body_ways : Ways) where
   pub ends-turns : (bound : ℕ) (test : Meaning Bool) (step : Meaning (Unit {0})) {body : Meaning Completion} → Leaves test → EndsIn body_ways body → EndsIn looped (turns bound own test step body)
   ends-turns zero test step h k = h (stop More) (ends-stop looped More)
   ends-turns (suc bound) test step {body = body} h k =
-      h (body >>= next_turn own (step >>= λ done. turns bound own test step body)) (ends-then body_ways looped k (ends-next (ends-after looped step (λ done. ends-turns bound test step h k))))
+      h (body >>= next_turn own (step >>= λ done. turns bound own test step body)) (ends-then body_ways looped k (ends-next (λ round. ends-after looped step (λ done. ends-turns bound test step h k))))
 
-  pub ends-do_turns : (bound : ℕ) (test : Meaning Bool) {body : Meaning Completion} → Leaves test → EndsIn body_ways body → EndsIn looped (do_turns bound own test body)
+  pub ends-do_turns : (bound : ℕ) (test : Meaning Bool) {body : Meaning Completion} → (comes_round own body_ways ≡ true → Leaves test) → EndsIn body_ways body → EndsIn looped (do_turns bound own test body)
   ends-do_turns zero test h k = ends-stop looped More
   ends-do_turns (suc bound) test {body = body} h k =
-      ends-then body_ways looped k (ends-next (h (do_turns bound own test body) (ends-do_turns bound test h k)))
+      ends-then body_ways looped k (ends-next (λ round. h round (do_turns bound own test body) (ends-do_turns bound test h k)))
+
+-- a test behind a body that comes round
+pub round-leaves : (own : Option ℕ) (body : Ways) (leaves : Bool) (test : Meaning Bool) → Leaves own leaves body test → comes_round own body ≡ true → Leaves own (comes_round own body && leaves) body test
+round-leaves own body leaves test h round = subst (λ so. Leaves own (so && leaves) body test) (sym round) h
 
 -- ---- exceptions and monitors
 
@@ -149,34 +162,14 @@ handled-run first second handler (Stops Stuck state) e h = tt
 pub ends-handled : (first second : Ways) {handler : RefValue → Meaning Completion} {body : Meaning Completion} → ((reference : RefValue) → EndsIn second (handler reference)) → EndsIn first body → EndsIn (one_of first second) (λ state. handled handler (body state))
 ends-handled first second {handler = handler} {body = body} h k = record { ends = λ state. handled-run first second handler (body state) (k.ends state) h }
 
--- what hides the first part where it doesn't complete normally
-last-way : (first second : Ways) (completion kept : Completion) → May second completion → May first kept → EndsIn (both_of first second) (sequence (pure kept) completion)
-last-way first second Normal Normal e f = ends-pure (both_of first second) Normal (rw (f, e) refl)
-last-way first second Normal (Break label) e f = ends-pure (both_of first second) (Break label) (rw f refl)
-last-way first second Normal (Continue label) e f = ends-pure (both_of first second) (Continue label) (rw f refl)
-last-way first second Normal (Return result) e f = ends-pure (both_of first second) (Return result) tt
-last-way first second Normal Misfit e f = ends-pure (both_of first second) Misfit tt
-last-way first second (Break label) kept e f = ends-pure (both_of first second) (Break label) (or_right (first.jumps label) (second.jumps label) e)
-last-way first second (Continue label) kept e f = ends-pure (both_of first second) (Continue label) (or_right (first.goes_on label) (second.goes_on label) e)
-last-way first second (Return result) kept e f = ends-pure (both_of first second) (Return result) tt
-last-way first second Misfit kept e f = ends-pure (both_of first second) Misfit tt
-
-thrown-way : (first second : Ways) (reference : RefValue) (completion : Completion) → May second completion → EndsIn (both_of first second) (sequence (stop (Throws reference)) completion)
-thrown-way first second reference Normal e = ends-stop (both_of first second) (Throws reference)
-thrown-way first second reference (Break label) e = ends-pure (both_of first second) (Break label) (or_right (first.jumps label) (second.jumps label) e)
-thrown-way first second reference (Continue label) e = ends-pure (both_of first second) (Continue label) (or_right (first.goes_on label) (second.goes_on label) e)
-thrown-way first second reference (Return result) e = ends-pure (both_of first second) (Return result) tt
-thrown-way first second reference Misfit e = ends-pure (both_of first second) Misfit tt
-
-finished-run : (first second : Ways) (last : Meaning Completion) (run : Outcome Store Completion) → EndsSo first run → EndsIn second last → EndsSo (both_of first second) (finished last run)
-finished-run first second last (Is completion state) e h =
-    (ends-then second (both_of first second) h (λ ended m. last-way first second ended completion m e)).ends state
-finished-run first second last (Stops (Throws reference) state) e h =
-    (ends-then second (both_of first second) h (λ ended m. thrown-way first second reference ended m)).ends state
+-- the last part, and what the first came to where the last completes normally
+finished-run : (first second : Ways) (last : Meaning Completion) (run : Outcome Store Completion) → EndsSo first run → EndsIn second last → EndsSo (both_of second first) (finished last run)
+finished-run first second last (Is completion state) e h = (ends-then second (both_of second first) h (ends-sequence second first (ends-pure first completion e))).ends state
+finished-run first second last (Stops (Throws reference) state) e h = (ends-then second (both_of second first) h (ends-sequence second first (ends-stop first (Throws reference)))).ends state
 finished-run first second last (Stops More state) e h = tt
 finished-run first second last (Stops Stuck state) e h = tt
 
-pub ends-finished : (first second : Ways) {last body : Meaning Completion} → EndsIn second last → EndsIn first body → EndsIn (both_of first second) (λ state. finished last (body state))
+pub ends-finished : (first second : Ways) {last body : Meaning Completion} → EndsIn second last → EndsIn first body → EndsIn (both_of second first) (λ state. finished last (body state))
 ends-finished first second {last = last} {body = body} h k = record { ends = λ state. finished-run first second last (body state) (k.ends state) h }
 
 left-run : (ways : Ways) (headers : List Header) (next : Meaning Completion) (held : List RefValue) (state : State Store) → EndsIn ways next → EndsSo ways (left_by headers next held state)

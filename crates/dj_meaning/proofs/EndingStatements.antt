@@ -5,7 +5,7 @@ use Rattle.dj_names.specs.declared.header.Header.{Header}
 use Rattle.dj_names.specs.Headers.{Name}
 use Rattle.dj_names.specs.Types.{JType}
 use Rattle.dj_syntax.specs.declared.variable.Var.{Var}
-use Rattle.dj_syntax.specs.Trees.{Exp, Text, Truth, This, Variable, ClassOf, Field, Static, Element, Call, StaticCall, SuperCall, New, NewArray, Cast, InstanceOf, Negative, Not, Binary, Choice, Assign, Stm, Block, Labelled, Declare, Set, SetField, SetStatic, SetElement, Run, If, While, Switch, Throw, Rethrow, Try, Synchronized, Construct, Do, For, Finally, Stms, Empty, And, Groups, NoGroups, AndGroup, Catches, NoCatches, AndCatch}
+use Rattle.dj_syntax.specs.Trees.{Exp, Text, Truth, This, Variable, ClassOf, Field, Static, Element, Call, StaticCall, SuperCall, New, NewArray, Cast, InstanceOf, Negative, Not, Binary, Choice, Assign, Stms, Empty, And}
 use Rattle.dj_syntax.specs.Trees as trees
 use Rattle.dj_values.specs.Values.{Value, Int, Long, Null, Ref, Action, Answer, Given, Done, Thrown}
 use Rattle.dj_values.specs.Deciding.{is_answer, is_throwable}
@@ -14,10 +14,11 @@ use Rattle.dj_meaning.specs.Fields.{Selection, Length, Member}
 use Rattle.dj_meaning.specs.StaticTypes.{Context, Scope}
 use Rattle.dj_meaning.specs.Objects.{with_object, field_written}
 use Rattle.dj_meaning.specs.Runs.{Store, Meaning, pure, ◌>>=◌, fitted, assigned}
-use Rattle.dj_meaning.specs.Expressions.{value, test}
+use Rattle.dj_meaning.specs.Expressions.{this_value, call_on, value, test}
 use Rattle.dj_meaning.specs.Completions.{Completion, Normal, Break, Continue, Return, Misfit, thrown, returns_nothing, returns_value}
 use Rattle.dj_meaning.specs.Declarations.{declared, within, locally, opened, passed_one, passed, initialised}
-use Rattle.dj_meaning.specs.Statements.{field_set}
+use Rattle.dj_meaning.specs.Targets.{Target}
+use Rattle.dj_meaning.specs.Statements.{Place, First, Behind, Elsewhere, field_set, constructed}
 use Rattle.dj_meaning.specs.Ways.{Ways, no_way, normally_if, both_of, repeated, is_true, ways, May, EndsSo}
 use Rattle.dj_meaning.proofs.Ending.{EndsIn, ends-pure, ends-stop, ends-after, ends-either, ends-local, Leaves}
 
@@ -27,14 +28,16 @@ and_join : (one two three : Bool) → (one && (two && three)) ≡ true → ((one
 and_join true two three e = e
 and_join false two three e = e
 
-or_join : (one two three : Bool) → (one || (two || three)) ≡ true → ((one || two) || three) ≡ true
-or_join true two three e = e
-or_join false two three e = e
+-- a way out of a part, or of one behind it, or of one behind both
+or_join : (one falls two behind three : Bool) → (one || (falls && (two || (behind && three)))) ≡ true → ((one || (falls && two)) || ((falls && behind) && three)) ≡ true
+or_join true falls two behind three e = e
+or_join false true two behind three e = e
+or_join false false two behind three e = e
 
 pub join-way : (first second third : Ways) (completion : Completion) → May (both_of first (both_of second third)) completion → May (both_of (both_of first second) third) completion
 join-way first second third Normal e = and_join first.falls second.falls third.falls e
-join-way first second third (Break label) e = or_join (first.jumps label) (second.jumps label) (third.jumps label) e
-join-way first second third (Continue label) e = or_join (first.goes_on label) (second.goes_on label) (third.goes_on label) e
+join-way first second third (Break label) e = or_join (first.jumps label) first.falls (second.jumps label) second.falls (third.jumps label) e
+join-way first second third (Continue label) e = or_join (first.goes_on label) first.falls (second.goes_on label) second.falls (third.goes_on label) e
 join-way first second third (Return result) e = tt
 join-way first second third Misfit e = tt
 
@@ -138,6 +141,12 @@ ends-field_set context name object new Length = ends-stop (normally_if true) Stu
 ends-field_set context name object new (Member class field) =
     ends-after (normally_if true) object (λ found. ends-after (normally_if true) (new >>= fitted context.headers field.type) (λ kept.
     ends-normally (outside context.headers (field_written class name field found kept))))
+
+pub ends-constructed : (context : Context) (place : Place) (asked : Option Target) (arguments : List JType → Meaning (List Value)) → EndsIn (normally_if true) (constructed context place asked arguments)
+ends-constructed context First asked arguments =
+    ends-either (normally_if true) context.constructs (ends-normally (call_on context asked (this_value context) arguments)) (ends-stop (normally_if true) Stuck)
+ends-constructed context (Behind label) asked arguments = ends-stop (normally_if true) Stuck
+ends-constructed context Elsewhere asked arguments = ends-stop (normally_if true) Stuck
 
 pub ends-returns_nothing : (result : Option JType) → EndsIn no_way (returns_nothing result)
 ends-returns_nothing None = ends-pure no_way (Return None) tt

@@ -5,7 +5,7 @@ use Rattle.dj_names.specs.declared.header.Header.{Header}
 use Rattle.dj_names.specs.declared.members.Constant.TheVariants as constant
 use Rattle.dj_names.specs.Headers.{Name}
 use Rattle.dj_names.specs.Types as types
-use Rattle.dj_names.specs.Types.{JType, Boolean, Byte, Class, Array, Descriptor}
+use Rattle.dj_names.specs.Types.{JType, Byte, Class, Array}
 use Rattle.dj_syntax.specs.declared.variable.Var.{Var}
 use Rattle.dj_syntax.specs.declared.variable.VarKind.TheVariants as kind
 use Rattle.dj_syntax.specs.Trees.{Exp, Variable, Stm, Stms, Empty, And, NoExps, AndExp, Exps}

@@ -3,11 +3,11 @@ use Rattle.std.proofs.Common.{◌≡◌, true, List, [], ◌∷◌, Some, refl}
 use Rattle.std.specs.Prelude.{pos, negsuc, codes}
 use Rattle.std.specs.Int.{int_wrap}
 use Rattle.dj_names.specs.Types as types
-use Rattle.dj_names.specs.Types.{JType, Boolean, Byte, Char, Class, Array}
+use Rattle.dj_names.specs.Types.{Boolean, Byte, Class, Array}
 use Rattle.dj_syntax.specs.declared.operator.Op.TheVariants as op
-use Rattle.dj_syntax.specs.Trees.{Exp, This, Variable, Field, Static, Element, Cast, InstanceOf, Negative, Not, Binary, Choice, Assign, NewArray, ClassOf, Truth}
+use Rattle.dj_syntax.specs.Trees.{This, Variable, Field, Static, Element, Cast, InstanceOf, Negative, Not, Binary, Choice, Assign, NewArray, ClassOf, Truth}
 use Rattle.dj_syntax.specs.Trees as trees
-use Rattle.dj_values.specs.Values.{RefValue, Numbered, Text, Value, Int, Long, Null, Ref, Action, GetField, GetStatic, ArrayLoad, ArrayStore, ClassConstant, Trap, Answer, Given, Thrown, More, Return, Throw, Show}
+use Rattle.dj_values.specs.Values.{Text, Value, Int, Long, Null, Ref, Action, GetField, GetStatic, ArrayLoad, ClassConstant, Trap, Given, Thrown, More, Return, Throw, Show}
 use Rattle.dj_values.specs.Values as values
 use Rattle.dj_meaning.proofs.ExampleWorld.{null_pointer, object, this, ints, exception, parameter, parameter_variable, int, local, one, gives}
 
@@ -34,7 +34,7 @@ a_text = refl
 the_object : gives (Class (codes "C")) This [] ≡ returns [] (Ref this)
 the_object = refl
 
-a_class : gives (Class (codes "java/lang/Class")) (ClassOf types.Int) (Given (Ref (object 9 (codes "java/lang/Class"))) ∷ []) ≡ returns (ClassConstant types.Int ∷ []) (Ref (object 9 (codes "java/lang/Class")))
+a_class : gives (Class (codes "java/lang/Class")) (ClassOf (Class (codes "B"))) (Given (Ref (object 9 (codes "java/lang/Class"))) ∷ []) ≡ returns (ClassConstant (Class (codes "B")) ∷ []) (Ref (object 9 (codes "java/lang/Class")))
 a_class = refl
 
 -- a variable out of scope stops the run
@@ -145,6 +145,9 @@ a_length = refl
 
 an_element : gives types.Int (Element (parameter 2) (int 1)) (Given (Int (pos 4)) ∷ []) ≡ returns (ArrayLoad ints (pos 1) ∷ []) (Int (pos 4))
 an_element = refl
+
+no_element : gives types.Int (Element (ClassOf (Class (codes "B"))) (int 1)) [] ≡ goes_on []
+no_element = refl
 
 past_the_end : gives types.Int (Element (parameter 2) (int 2)) [] ≡ goes_on (Trap (codes "java/lang/ArrayIndexOutOfBoundsException") ∷ [])
 past_the_end = refl

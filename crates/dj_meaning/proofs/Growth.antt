@@ -11,10 +11,11 @@ use Rattle.dj_values.proofs.Growth.{shown-below}
 use Rattle.dj_meaning.specs.StaticTypes.{Context, Scope}
 use Rattle.dj_meaning.specs.Runs.{pure}
 use Rattle.dj_meaning.specs.Completions.{Completion, Normal, Break, Continue, Return, Misfit}
-use Rattle.dj_meaning.specs.Meaning.{run, run_all, ended, of_parameter, context_of, entered, source_show}
+use Rattle.dj_meaning.specs.Statements.{Place}
+use Rattle.dj_meaning.specs.Meaning.{run, run_all, run_statements, ended, of_parameter, context_of, entered, source_show}
 use Rattle.dj_meaning.proofs.EachVariable.{each-stm, each-stms}
 use Rattle.dj_meaning.proofs.KeptExpressions.{IsKept}
-use Rattle.dj_meaning.proofs.KeptStatements.{kept-run, kept-all}
+use Rattle.dj_meaning.proofs.KeptStatements.{kept-run, kept-all, kept-statements}
 use Rattle.dj_meaning.proofs.Growing.{Grows, grows-pure, grows-stop, grows-outside, grows-bind, grows-look, grows-put, grows-local, grows-turns, grows-do_turns, grows-handled, grows-finished}
 use Rattle.dj_meaning.proofs.GrowingMonitors.{grows-holding}
 
@@ -35,12 +36,16 @@ grows-kept bound longer less = record {
 }
 
 -- a run of a statement is below one with a greater bound
-pub grows-run : (context : Context) (scope : Scope) (bound longer : ℕ) → bound ≤ longer → (own : Option ℕ) (stm : Stm) → Grows (run context scope bound own stm) (run context scope longer own stm)
-grows-run context scope bound longer less own stm = kept-run (grows-kept bound longer less) context scope own stm (each-stm (λ variable. tt) stm)
+pub grows-run : (context : Context) (scope : Scope) (bound longer : ℕ) → bound ≤ longer → (place : Place) (stm : Stm) → Grows (run context scope bound place stm) (run context scope longer place stm)
+grows-run context scope bound longer less place stm = kept-run (grows-kept bound longer less) context scope place stm (each-stm (λ variable. tt) stm)
 
 -- a run of statements is below one with a greater bound
 pub grows-all : (context : Context) (scope : Scope) (bound longer : ℕ) → bound ≤ longer → (list : Stms) → Grows (run_all context scope bound list) (run_all context scope longer list)
 grows-all context scope bound longer less list = kept-all (grows-kept bound longer less) context scope list (each-stms (λ variable. tt) list)
+
+-- and so is one of the statements of a body
+pub grows-statements : (context : Context) (scope : Scope) (bound longer : ℕ) → bound ≤ longer → (list : Stms) → Grows (run_statements context scope bound list) (run_statements context scope longer list)
+grows-statements context scope bound longer less list = kept-statements (grows-kept bound longer less) context scope list (each-stms (λ variable. tt) list)
 
 -- ---- bodies
 
@@ -61,5 +66,5 @@ pub longer_shows_more : (headers : List Header) (members : List ClassMembers) (b
 longer_shows_more headers members body arguments answers bound longer less =
     let context = context_of headers members body arguments in
     let scope : Scope = of_parameter (parameters_of body.descriptor) in
-    let runs = grows-bind (grows-all context scope bound longer less body.statements) (grows-ended context.result) in
+    let runs = grows-bind (grows-statements context scope bound longer less body.statements) (grows-ended context.result) in
     shown-below _ _ (runs.below (entered (behind_this (is_static body.flags) arguments) answers))

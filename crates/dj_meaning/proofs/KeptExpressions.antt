@@ -9,6 +9,7 @@ use Rattle.dj_syntax.specs.declared.variable.Var.{Var}
 use Rattle.dj_syntax.specs.Trees.{Exp, Text, Truth, This, Variable, ClassOf, Field, Static, Element, Call, StaticCall, SuperCall, NewArray, Cast, InstanceOf, Negative, Not, Binary, Choice, Assign, Exps, NoExps, AndExp}
 use Rattle.dj_syntax.specs.Trees as trees
 use Rattle.dj_values.specs.Values.{RefValue, Value, Int, Long, Null, New, ClassConstant}
+use Rattle.dj_values.specs.Fits.{element_of}
 use Rattle.dj_values.specs.Outcomes.{Stop, More, Stuck, Reply, ask_value, outside}
 use Rattle.dj_meaning.specs.Operators.{Operator, Strict, After, operator_of, truth, truth_of, is_wanted, by_form}
 use Rattle.dj_meaning.specs.UnaryOperators.{negated, inverted}
@@ -116,7 +117,8 @@ module _ {R : (A : Type 0) → Meaning A → Meaning A → Type 0} {Has : Var �
     kept-value context scope (Static class name) n =
         kept-with (named_field context.headers context.members context.class class name) (λ field. kept.asks context.headers (static_read (Class class) name field))
     kept-value context scope (Element array index) n =
-        kept.binds (kept-value context scope array n.0) (λ found. kept.binds (kept-value context scope index n.1) (λ place. kept.asks context.headers (element_read found place)))
+        kept-with (option_and_then element_of (plain (type_of context scope array))) (λ element.
+        kept.binds (kept-value context scope array n.0) (λ found. kept.binds (kept-value context scope index n.1) (λ place. kept.asks context.headers (element_read found place))))
     kept-value context scope (Call object name arguments) n = kept-given (kept-call_on context _ (kept-value context scope object n.0) (kept-values context scope arguments n.1))
     kept-value context scope (StaticCall class name arguments) n = kept-given (kept-call_static context _ (kept-values context scope arguments n))
     kept-value context scope (SuperCall above name arguments) n = kept-given (kept-call_on context _ (kept-this context) (kept-values context scope arguments n))

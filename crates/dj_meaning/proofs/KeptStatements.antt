@@ -17,9 +17,9 @@ use Rattle.dj_meaning.specs.Objects.{with_object, field_written, element_written
 use Rattle.dj_meaning.specs.Runs.{Meaning}
 use Rattle.dj_meaning.specs.Completions.{Completion, Normal, Break, Continue, Return, Misfit, sequence, taken, thrown, returns_nothing, returns_value}
 use Rattle.dj_meaning.specs.Declarations.{declared, within, behind, locally, opened, passed_one, passed, initialised, caught}
-use Rattle.dj_meaning.specs.Statements.{does, field_set, element_set, constructed, has_label, label_for, number_of, switched, synchronized}
+use Rattle.dj_meaning.specs.Statements.{Place, First, Behind, Elsewhere, label_at, does, field_set, element_set, constructed, has_label, label_for, number_of, switched, synchronized}
 use Rattle.dj_meaning.specs.Variables.{EachInOption, EachInStm, EachInStms, EachInGroups, EachInCatches}
-use Rattle.dj_meaning.specs.Meaning.{run, run_then, run_groups, run_from, run_clauses, run_all}
+use Rattle.dj_meaning.specs.Meaning.{run, run_then, run_groups, run_from, run_clauses, run_all, run_statements}
 use Rattle.dj_meaning.proofs.KeptExpressions.{IsKept, kept-either, kept-with, kept-fitted, kept-assigned, kept-this, kept-call_on, kept-value, kept-values, kept-test, kept-effect}
 
 -- a variable that is declared, where one is, has a property
@@ -105,9 +105,11 @@ module _ {R : (A : Type 0) → Meaning A → Meaning A → Type 0} {Has : Var �
   kept-element_set context h i k element =
       kept.binds h (λ found. kept.binds i (λ place. kept.binds (kept.binds k (kept-fitted kept context.headers element)) (λ value. kept-does context (element_written context.headers found place value))))
 
-  kept-constructed : (context : Context) (asked : Option Target) {arguments : List JType → Meaning (List Value)} → ((types : List JType) → R (List Value) (arguments types) (arguments types)) → Alone (constructed context asked arguments)
-  kept-constructed context asked h =
+  kept-constructed : (context : Context) (place : Place) (asked : Option Target) {arguments : List JType → Meaning (List Value)} → ((types : List JType) → R (List Value) (arguments types) (arguments types)) → Alone (constructed context place asked arguments)
+  kept-constructed context First asked h =
       kept-either kept context.constructs (kept.binds (kept-call_on kept context asked (kept-this kept context) h) (λ nothing. kept.pures Normal)) (kept.stops Stuck)
+  kept-constructed context (Behind label) asked h = kept.stops Stuck
+  kept-constructed context Elsewhere asked h = kept.stops Stuck
 
   kept-returns_nothing : (result : Option JType) → Alone (returns_nothing result)
   kept-returns_nothing None = kept.pures (Return None)
@@ -136,51 +138,51 @@ module _ {R : (A : Type 0) → Meaning A → Meaning A → Type 0} {Has : Var �
 
   module _ (context : Context) where
     mutual
-      pub kept-run : (scope : Scope) (own : Option ℕ) (stm : Stm) → EachInStm Has stm → R Completion (run context scope bound own stm) (run context scope longer own stm)
-      kept-run scope own (Block list) n = kept-then scope list n (kept.pures Normal)
-      kept-run scope own (Labelled label statement) n = kept.binds (kept-run scope (Some label) statement n) (kept-taken label)
-      kept-run scope own (Declare variable kind initial) n =
+      pub kept-run : (scope : Scope) (place : Place) (stm : Stm) → EachInStm Has stm → R Completion (run context scope bound place stm) (run context scope longer place stm)
+      kept-run scope place (Block list) n = kept-then scope list n (kept.pures Normal)
+      kept-run scope place (Labelled label statement) n = kept.binds (kept-run scope (Behind label) statement n) (kept-taken label)
+      kept-run scope place (Declare variable kind initial) n =
           kept.binds (kept-opened scope variable n.0) (λ done. kept-initialised context (with_type variable kind scope) variable initial n.0 n.1)
-      kept-run scope own (Set variable new) n = kept.binds (kept-assigned kept context.headers scope variable n.0 (kept-value kept context scope new n.1)) (λ done. kept.pures Normal)
-      kept-run scope own (SetField object name new) n =
+      kept-run scope place (Set variable new) n = kept.binds (kept-assigned kept context.headers scope variable n.0 (kept-value kept context scope new n.1)) (λ done. kept.pures Normal)
+      kept-run scope place (SetField object name new) n =
           kept-with kept (option_and_then (selected context.headers context.members context.class name) (plain (type_of context scope object)))
           (kept-field_set context name (kept-value kept context scope object n.0) (kept-value kept context scope new n.1))
-      kept-run scope own (SetStatic class name new) n =
+      kept-run scope place (SetStatic class name new) n =
           kept-with kept (named_field context.headers context.members context.class class name) (λ field.
           kept.binds (kept.binds (kept-value kept context scope new n) (kept-fitted kept context.headers field.type)) (λ value. kept-does context (ask (PutStatic (Class class) name field.type value))))
-      kept-run scope own (SetElement array index new) n =
+      kept-run scope place (SetElement array index new) n =
           kept-with kept (option_and_then element_of (plain (type_of context scope array)))
           (kept-element_set context (kept-value kept context scope array n.0) (kept-value kept context scope index n.1) (kept-value kept context scope new n.2))
-      kept-run scope own (Run call) n = kept.binds (kept-effect kept context scope call n) (λ dropped. kept.pures Normal)
-      kept-run scope own (If condition first second) n =
+      kept-run scope place (Run call) n = kept.binds (kept-effect kept context scope call n) (λ dropped. kept.pures Normal)
+      kept-run scope place (If condition first second) n =
           kept.binds (kept-test kept context scope condition n.0) (λ answer. kept-either kept answer (kept-then scope first n.1 (kept.pures Normal)) (kept-then scope second n.2 (kept.pures Normal)))
-      kept-run scope own (While condition body) n =
-          kept.loops own (kept-test kept context scope condition n.0) (kept.pures tt) (kept-then scope body n.1 (kept.pures Normal))
-      kept-run scope own (Switch on cases) n =
+      kept-run scope place (While condition body) n =
+          kept.loops (label_at place) (kept-test kept context scope condition n.0) (kept.pures tt) (kept-then scope body n.1 (kept.pures Normal))
+      kept-run scope place (Switch on cases) n =
           kept.binds (kept-value kept context scope on n.0) (λ found. kept.binds (kept.asks context.headers (number_of found))
           (λ number. kept-switched (kept-from scope cases n.1) (label_for cases number)))
-      kept-run scope own (trees.Break label) n = kept.pures (Break label)
-      kept-run scope own (trees.Continue label) n = kept.pures (Continue label)
-      kept-run scope own (trees.Return None) n = kept-returns_nothing context.result
-      kept-run scope own (trees.Return (Some result)) n = kept.binds (kept-value kept context scope result n) (kept-returns_value context context.result)
-      kept-run scope own (Throw exception) n = kept.binds (kept-value kept context scope exception n) (kept-thrown context)
-      kept-run scope own (Rethrow variable) n = kept.binds (kept.looks scope variable n) (kept-thrown context)
-      kept-run scope own (Try body clauses) n = kept.handles (kept-clauses scope clauses n.1) (kept-then scope body n.0 (kept.pures Normal))
-      kept-run scope own (Synchronized monitor body) n =
+      kept-run scope place (trees.Break label) n = kept.pures (Break label)
+      kept-run scope place (trees.Continue label) n = kept.pures (Continue label)
+      kept-run scope place (trees.Return None) n = kept-returns_nothing context.result
+      kept-run scope place (trees.Return (Some result)) n = kept.binds (kept-value kept context scope result n) (kept-returns_value context context.result)
+      kept-run scope place (Throw exception) n = kept.binds (kept-value kept context scope exception n) (kept-thrown context)
+      kept-run scope place (Rethrow variable) n = kept.binds (kept.looks scope variable n) (kept-thrown context)
+      kept-run scope place (Try body clauses) n = kept.handles (kept-clauses scope clauses n.1) (kept-then scope body n.0 (kept.pures Normal))
+      kept-run scope place (Synchronized monitor body) n =
           kept.binds (kept-value kept context scope monitor n.0) (kept-synchronized context (kept-then scope body n.1 (kept.pures Normal)))
-      kept-run scope own (Construct this arguments) n =
-          kept-constructed context (construct_target context this (types_of context scope arguments)) (kept-values kept context scope arguments n)
-      kept-run scope own (Do body condition) n =
-          kept.do_loops own (kept-test kept context scope condition n.1) (kept-then scope body n.0 (kept.pures Normal))
-      kept-run scope own (For condition variable step body) n =
-          kept.loops own (kept-test kept context scope condition n.0)
+      kept-run scope place (Construct this arguments) n =
+          kept-constructed context place (construct_target context this (types_of context scope arguments)) (kept-values kept context scope arguments n)
+      kept-run scope place (Do body condition) n =
+          kept.do_loops (label_at place) (kept-test kept context scope condition n.1) (kept-then scope body n.0 (kept.pures Normal))
+      kept-run scope place (For condition variable step body) n =
+          kept.loops (label_at place) (kept-test kept context scope condition n.0)
           (kept.binds (kept-assigned kept context.headers scope variable n.1 (kept-value kept context scope step n.2)) (λ done. kept.pures tt)) (kept-then scope body n.3 (kept.pures Normal))
-      kept-run scope own (Finally body last) n = kept.finishes (kept-then scope last n.1 (kept.pures Normal)) (kept-then scope body n.0 (kept.pures Normal))
+      kept-run scope place (Finally body last) n = kept.finishes (kept-then scope last n.1 (kept.pures Normal)) (kept-then scope body n.0 (kept.pures Normal))
 
       pub kept-then : (scope : Scope) (list : Stms) → EachInStms Has list → {next later : Meaning Completion} → R Completion next later → R Completion (run_then context scope bound list next) (run_then context scope longer list later)
       kept-then scope Empty n h = h
       kept-then scope (And first rest) n h =
-          kept-locally (declared first) (declared-has Has first n.0) (kept.binds (kept-run scope None first n.0) (kept-sequence (kept-then (within (declared first) scope) rest n.1 h)))
+          kept-locally (declared first) (declared-has Has first n.0) (kept.binds (kept-run scope Elsewhere first n.0) (kept-sequence (kept-then (within (declared first) scope) rest n.1 h)))
 
       kept-groups : (scope : Scope) (groups : Groups) → EachInGroups Has groups → R Completion (run_groups context scope bound groups) (run_groups context scope longer groups)
       kept-groups scope NoGroups n = kept.pures Normal
@@ -201,3 +203,9 @@ module _ {R : (A : Type 0) → Meaning A → Meaning A → Type 0} {Has : Var �
   -- statements in order
   pub kept-all : (context : Context) (scope : Scope) (list : Stms) → EachInStms Has list → R Completion (run_all context scope bound list) (run_all context scope longer list)
   kept-all context scope list n = kept-then context scope list n (kept.pures Normal)
+
+  -- the statements of a body
+  pub kept-statements : (context : Context) (scope : Scope) (list : Stms) → EachInStms Has list → R Completion (run_statements context scope bound list) (run_statements context scope longer list)
+  kept-statements context scope Empty n = kept.pures Normal
+  kept-statements context scope (And first rest) n =
+      kept-locally (declared first) (declared-has Has first n.0) (kept.binds (kept-run context scope First first n.0) (kept-sequence (kept-all context (within (declared first) scope) rest n.1)))

@@ -16,4 +16,5 @@ pub mod ExpressionExamples
 pub mod CallExamples
 pub mod StatementExamples
 pub mod ChoiceExamples
+pub mod WaysExamples
 pub mod Preserved

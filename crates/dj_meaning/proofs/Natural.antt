@@ -14,9 +14,10 @@ use Rattle.dj_meaning.specs.StaticTypes.{Context, Scope, is_same_variable}
 use Rattle.dj_meaning.specs.Runs.{Store, Meaning, pure, stop, ◌>>=◌, looked_up, look, with_value, with_store, put, map_state, local}
 use Rattle.dj_meaning.specs.Completions.{Completion, sequence, Normal, Break, Continue, Return, Misfit, handled, finished, with_held, left_by, released, holding}
 use Rattle.dj_meaning.specs.Variables.{EachInStm, EachInStms}
-use Rattle.dj_meaning.specs.Meaning.{run, run_all}
+use Rattle.dj_meaning.specs.Statements.{Place}
+use Rattle.dj_meaning.specs.Meaning.{run, run_all, run_statements}
 use Rattle.dj_meaning.proofs.KeptExpressions.{IsKept}
-use Rattle.dj_meaning.proofs.KeptStatements.{kept-run, kept-all}
+use Rattle.dj_meaning.proofs.KeptStatements.{kept-run, kept-all, kept-statements}
 use Rattle.dj_meaning.proofs.KeptLoops.{IsStepped, kept-turns, kept-do_turns}
 
 -- writes of two different variables, in either order
@@ -179,8 +180,11 @@ module _ (unnamed : Var) (found : Option Value) where
   }
 
   -- a statement that doesn't name the variable
-  pub natural-run : (context : Context) (scope : Scope) (bound : ℕ) (own : Option ℕ) (stm : Stm) → EachInStm IsOther stm → Natural (run context scope bound own stm)
-  natural-run context scope bound own stm others = kept-run (natural-kept bound) context scope own stm others
+  pub natural-run : (context : Context) (scope : Scope) (bound : ℕ) (place : Place) (stm : Stm) → EachInStm IsOther stm → Natural (run context scope bound place stm)
+  natural-run context scope bound place stm others = kept-run (natural-kept bound) context scope place stm others
 
   pub natural-all : (context : Context) (scope : Scope) (bound : ℕ) (list : Stms) → EachInStms IsOther list → Natural (run_all context scope bound list)
   natural-all context scope bound list others = kept-all (natural-kept bound) context scope list others
+
+  pub natural-statements : (context : Context) (scope : Scope) (bound : ℕ) (list : Stms) → EachInStms IsOther list → Natural (run_statements context scope bound list)
+  natural-statements context scope bound list others = kept-statements (natural-kept bound) context scope list others

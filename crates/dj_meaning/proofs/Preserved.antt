@@ -1,12 +1,14 @@
 -- Each statement preserves itself, and rewrites one after another preserve.
-use Rattle.std.proofs.Common.{ℕ, Option, refl, sym, ◌∙◌, subst}
+use Rattle.std.proofs.Common.{refl, sym, ◌∙◌, subst}
 use Rattle.dj_syntax.specs.Trees.{Stm}
 use Rattle.dj_values.specs.Outcomes.{Throws, More, Stuck, State, Outcome, Is, Stops, IsFront, actions_of, Below}
 use Rattle.dj_values.proofs.Growth.{front-refl, front-join, below-refl}
 use Rattle.dj_meaning.specs.StaticTypes.{Context, Scope}
 use Rattle.dj_meaning.specs.Runs.{Store}
+use Rattle.dj_meaning.specs.Completions.{Completion}
+use Rattle.dj_meaning.specs.Statements.{Place, First, Behind, Elsewhere}
 use Rattle.dj_meaning.specs.Meaning.{run}
-use Rattle.dj_meaning.specs.Preserving.{IsFree, IsStart, Preserves}
+use Rattle.dj_meaning.specs.Preserving.{IsFree, at_label, IsStart, Preserves}
 
 front-below : {A : Type 0} (first second : Outcome Store A) → Below first second → IsFront (actions_of first) (actions_of second)
 front-below (Is result state) second e = subst (λ other. IsFront state.world.actions (actions_of other)) (sym e) (front-refl state.world.actions)
@@ -20,37 +22,41 @@ below-join (Stops (Throws reference) state) second third e f = subst (λ other. 
 below-join (Stops More state) second third front f = front-join state.world.actions (actions_of second) (actions_of third) front (front-below second third f)
 below-join (Stops Stuck state) second third e f = subst (λ other. Below other third) e f
 
--- what is below a run that isn't stuck isn't stuck
-free-below : {A : Type 0} (first second : Outcome Store A) → Below second first → IsFree first → IsFree second
-free-below first (Is result state) e free = tt
-free-below first (Stops (Throws reference) state) e free = tt
-free-below first (Stops More state) e free = tt
-free-below first (Stops Stuck state) e free = subst (λ other. IsFree other) e free
+-- what is below a run that isn't stuck, with the label right before it taken, isn't stuck so
+free-below : (place : Place) (first second : Outcome Store Completion) → Below second first → IsFree (at_label place first) → IsFree (at_label place second)
+free-below place first (Is result state) e free = subst (λ other. IsFree (at_label place other)) e free
+free-below First first (Stops (Throws reference) state) e free = tt
+free-below (Behind label) first (Stops (Throws reference) state) e free = tt
+free-below Elsewhere first (Stops (Throws reference) state) e free = tt
+free-below First first (Stops More state) e free = tt
+free-below (Behind label) first (Stops More state) e free = tt
+free-below Elsewhere first (Stops More state) e free = tt
+free-below place first (Stops Stuck state) e free = subst (λ other. IsFree (at_label place other)) e free
 
 pub preserves-self : (stm : Stm) → Preserves stm stm
 preserves-self stm = record {
   declares = refl;
-  forth = λ context scope own state start bound. below-refl (run context scope bound own stm state);
-  back = λ context scope own state start bound. (bound, below-refl (run context scope bound own stm state));
+  forth = λ context scope place state start bound. below-refl (run context scope bound place stm state);
+  back = λ context scope place state start bound. (bound, below-refl (run context scope bound place stm state));
 }
 
 -- a start of the first is one of the second
-start-on : (first second : Stm) → Preserves first second → (context : Context) (scope : Scope) (own : Option ℕ) (state : State Store) → IsStart context scope own first state → IsStart context scope own second state
-start-on first second p context scope own state start = record {
+start-on : (first second : Stm) → Preserves first second → (context : Context) (scope : Scope) (place : Place) (state : State Store) → IsStart context scope place first state → IsStart context scope place second state
+start-on first second p context scope place state start = record {
   typed = start.typed;
   free = λ bound.
-      let behind = p.back context scope own state start bound in
-      free-below (run context scope behind.0 own first state) (run context scope bound own second state) behind.1 (start.free behind.0);
+      let behind = p.back context scope place state start bound in
+      free-below place (run context scope behind.0 place first state) (run context scope bound place second state) behind.1 (start.free behind.0);
 }
 
 pub preserves-on : (first second third : Stm) → Preserves first second → Preserves second third → Preserves first third
 preserves-on first second third p q = record {
   declares = q.declares ∙ p.declares;
-  forth = λ context scope own state start bound.
-      below-join (run context scope bound own first state) (run context scope bound own second state) (run context scope bound own third state) (p.forth context scope own state start bound)
-      (q.forth context scope own state (start-on first second p context scope own state start) bound);
-  back = λ context scope own state start bound.
-      let one = q.back context scope own state (start-on first second p context scope own state start) bound in
-      let two = p.back context scope own state start one.0 in
-      (two.0, below-join (run context scope bound own third state) (run context scope one.0 own second state) (run context scope two.0 own first state) one.1 two.1);
+  forth = λ context scope place state start bound.
+      below-join (run context scope bound place first state) (run context scope bound place second state) (run context scope bound place third state) (p.forth context scope place state start bound)
+      (q.forth context scope place state (start-on first second p context scope place state start) bound);
+  back = λ context scope place state start bound.
+      let one = q.back context scope place state (start-on first second p context scope place state start) bound in
+      let two = p.back context scope place state start one.0 in
+      (two.0, below-join (run context scope bound place third state) (run context scope one.0 place second state) (run context scope two.0 place first state) one.1 two.1);
 }

@@ -2,7 +2,7 @@
 use Rattle.std.proofs.Common.{◌≡◌, ℕ, true, false, List, [], ◌∷◌, Some, None, refl}
 use Rattle.std.specs.Prelude.{pos, codes}
 use Rattle.dj_names.specs.Types as types
-use Rattle.dj_names.specs.Types.{JType, Class, Method}
+use Rattle.dj_names.specs.Types.{Class, Method}
 use Rattle.dj_syntax.specs.declared.operator.Op.TheVariants as op
 use Rattle.dj_syntax.specs.declared.variable.Var.{Var}
 use Rattle.dj_syntax.specs.declared.variable.VarKind.TheVariants as kind
@@ -112,16 +112,50 @@ a_continue = refl
 a_break_of_a_loop : return_at 3 (from_zero (And (Labelled 1 (While (Truth true) (And next (only (Break 1))))) (only (return (variable 0))))) [] [] 1
 a_break_of_a_loop = refl
 
--- the body of `do` comes before its test, and is cut
+-- `do` runs its body before its test
 a_do : return_at 1 (from_zero (And (Do (only next) (Truth false)) (only (return (variable 0))))) [] [] 1
 a_do = refl
 
+-- it goes on while the test is true, with as many turns as `while`
+a_do_that_goes_on : return_at 3 (from_zero (And (Do (only next) few) (only (return (variable 0))))) [] [] 3
+a_do_that_goes_on = refl
+
+-- a continue of its label leads to the test
+a_continue_of_a_do : return_at 3 (from_zero (And (Labelled 1 (Do (And next (And (Continue 1) (only (call 1)))) few)) (only (return (variable 0))))) [] [] 3
+a_continue_of_a_do = refl
+
+-- a turn past the bound doesn't begin
 a_do_that_is_cut : goes_on_at 0 (from_zero (And (Do (only (call 1)) (Truth false)) (only (return (variable 0))))) [] []
 a_do_that_is_cut = refl
 
--- the step of `for` comes behind each turn, also behind a continue
-a_for : return_at 3 (from_zero (And (Labelled 1 (For few (local 0) (Binary op.Add (variable 0) (int 1)) (only (Continue 1)))) (only (return (variable 0))))) [] [] 3
+a_do_that_is_cut_later : goes_on_at 2 (from_zero (And (Do (And (call 1) (only next)) few) (only (return (variable 0))))) (told ∷ told ∷ told ∷ []) (act 1 ∷ act 1 ∷ [])
+a_do_that_is_cut_later = refl
+
+-- `v0 = v0 + 1` is the step of this `for`
+abbrev stepped : Stms → Stm
+stepped body = For few (local 0) (Binary op.Add (variable 0) (int 1)) body
+
+-- `for` is a `while` each of whose turns ends by its step
+a_for : return_at 3 (from_zero (And (stepped (only (call 1))) (only (return (variable 0))))) (told ∷ told ∷ told ∷ []) (act 1 ∷ act 1 ∷ act 1 ∷ []) 3
 a_for = refl
+
+-- a turn behind a continue of its label too
+a_continue_of_a_for : return_at 3 (from_zero (And (Labelled 1 (stepped (And (Continue 1) (only (call 1))))) (only (return (variable 0))))) [] [] 3
+a_continue_of_a_for = refl
+
+-- one that ends otherwise takes no step
+a_break_of_a_for : return_at 3 (from_zero (And (Labelled 1 (stepped (only (Break 1)))) (only (return (variable 0))))) [] [] 0
+a_break_of_a_for = refl
+
+a_continue_past_a_for : return_at 3 (from_zero (And (Labelled 2 (While few (And next (And (call 1) (only (Labelled 1 (stepped (only (Continue 2))))))))) (only (return (variable 0))))) (told ∷ told ∷ told ∷ []) (act 1 ∷ act 1 ∷ act 1 ∷ []) 3
+a_continue_past_a_for = refl
+
+-- it tests before the bound counts
+a_for_that_is_cut : goes_on_at 2 (from_zero (And (stepped (only (call 1))) (only (return (variable 0))))) (told ∷ told ∷ told ∷ []) (act 1 ∷ act 1 ∷ [])
+a_for_that_is_cut = refl
+
+a_for_without_a_turn : return_at 0 (And (Declare (local 0) types.Int (Some (int 3))) (And (stepped (only (call 1))) (only (return (variable 0))))) [] [] 3
+a_for_without_a_turn = refl
 
 -- ---- switches
 
@@ -160,15 +194,45 @@ a_catch = refl
 not_caught : leaves (only (Try (only (Throw (parameter 5))) (AndCatch (codes "C") caught (only (return (int 1))) NoCatches))) [] []
 not_caught = refl
 
--- what comes last runs behind a return and behind a throw, and hides them where it jumps or returns
-a_finally : return_at 0 (only (Finally (only (return (int 1))) (only (call 2)))) (told ∷ []) (act 2 ∷ []) 1
+-- what comes last in a `finally` runs behind whatever the first part comes to, and that counts where it completes normally
+a_finally : return_at 0 (And (Finally (only (call 1)) (only (call 2))) (only (return (int 3)))) (told ∷ told ∷ []) (act 1 ∷ act 2 ∷ []) 3
 a_finally = refl
+
+a_return_through_a_finally : return_at 0 (only (Finally (only (return (int 1))) (only (call 2)))) (told ∷ []) (act 2 ∷ []) 1
+a_return_through_a_finally = refl
+
+-- what is returned was evaluated before
+a_store_behind_a_return : return_at 0 (from_zero (only (Finally (only (return (variable 0))) (only next)))) [] [] 0
+a_store_behind_a_return = refl
 
 a_throw_through_a_finally : leaves (only (Finally (only (Throw (parameter 5))) (only (call 2)))) (told ∷ []) (act 2 ∷ [])
 a_throw_through_a_finally = refl
 
+a_break_through_a_finally : return_at 0 (And (Labelled 1 (Block (And (Finally (only (Break 1)) (only (call 2))) (only (call 4))))) (only (return (int 3)))) (told ∷ []) (act 2 ∷ []) 3
+a_break_through_a_finally = refl
+
+a_continue_through_a_finally : return_at 3 (from_zero (And (Labelled 1 (While few (only (Finally (only (Continue 1)) (only next))))) (only (return (variable 0))))) [] [] 3
+a_continue_through_a_finally = refl
+
+-- where the last part completes otherwise, that counts in its place
 a_finally_that_returns : return_at 0 (only (Finally (only (Throw (parameter 5))) (only (return (int 3))))) [] [] 3
 a_finally_that_returns = refl
+
+a_finally_that_breaks : return_at 0 (And (Labelled 1 (Finally (only (return (int 1))) (only (Break 1)))) (only (return (int 3)))) [] [] 3
+a_finally_that_breaks = refl
+
+a_finally_that_throws : leaves (only (Finally (only (return (int 1))) (only (Throw (parameter 5))))) [] []
+a_finally_that_throws = refl
+
+-- behind a part that is cut or stuck nothing comes last
+a_cut_in_a_finally : goes_on_at 0 (only (Finally (only (While (Truth true) Empty)) (only (call 2)))) (told ∷ []) []
+a_cut_in_a_finally = refl
+
+an_unanswered_call_in_a_finally : goes_on_at 0 (only (Finally (only (call 1)) (only (call 2)))) [] (act 1 ∷ [])
+an_unanswered_call_in_a_finally = refl
+
+a_stuck_part_of_a_finally : goes_on_at 0 (only (Finally (only (Throw This)) (only (call 2)))) (told ∷ []) []
+a_stuck_part_of_a_finally = refl
 
 -- ---- monitors
 

@@ -12,10 +12,11 @@ use Rattle.dj_meaning.specs.StaticTypes.{Context, Scope}
 use Rattle.dj_meaning.specs.Runs.{Store, Meaning, pure, stop, ◌>>=◌, looked_up, look, with_value, with_store, put, map_state, local}
 use Rattle.dj_meaning.specs.Completions.{Completion, sequence, Normal, Break, Continue, Return, Misfit, handled, finished, with_held, left_by, released, held_besides, holding}
 use Rattle.dj_meaning.specs.Monitors.{HoldsStill}
-use Rattle.dj_meaning.specs.Meaning.{run, run_all}
+use Rattle.dj_meaning.specs.Statements.{Place}
+use Rattle.dj_meaning.specs.Meaning.{run, run_all, run_statements}
 use Rattle.dj_meaning.proofs.EachVariable.{each-stm, each-stms}
 use Rattle.dj_meaning.proofs.KeptExpressions.{IsKept}
-use Rattle.dj_meaning.proofs.KeptStatements.{kept-run, kept-all}
+use Rattle.dj_meaning.proofs.KeptStatements.{kept-run, kept-all, kept-statements}
 use Rattle.dj_meaning.proofs.KeptLoops.{IsStepped, kept-turns, kept-do_turns}
 
 -- a part that ends with the monitors held with which it began
@@ -154,8 +155,11 @@ steady-kept bound = record {
 }
 
 -- a statement that completes, or leaves by an exception, gives back the monitors that it has entered
-pub steady-run : (context : Context) (scope : Scope) (bound : ℕ) (own : Option ℕ) (stm : Stm) → Steady (run context scope bound own stm)
-steady-run context scope bound own stm = kept-run (steady-kept bound) context scope own stm (each-stm (λ variable. tt) stm)
+pub steady-run : (context : Context) (scope : Scope) (bound : ℕ) (place : Place) (stm : Stm) → Steady (run context scope bound place stm)
+steady-run context scope bound place stm = kept-run (steady-kept bound) context scope place stm (each-stm (λ variable. tt) stm)
 
 pub steady-all : (context : Context) (scope : Scope) (bound : ℕ) (list : Stms) → Steady (run_all context scope bound list)
 steady-all context scope bound list = kept-all (steady-kept bound) context scope list (each-stms (λ variable. tt) list)
+
+pub steady-statements : (context : Context) (scope : Scope) (bound : ℕ) (list : Stms) → Steady (run_statements context scope bound list)
+steady-statements context scope bound list = kept-statements (steady-kept bound) context scope list (each-stms (λ variable. tt) list)

@@ -4,7 +4,7 @@ use Rattle.std.specs.List.{list_any, list_all}
 use Rattle.dj_names.specs.declared.header.Header.{Header}
 use Rattle.dj_names.specs.Headers.{Name}
 use Rattle.dj_names.specs.Types as types
-use Rattle.dj_names.specs.Types.{JType, Class, Descriptor, StaticType, Of, view_descriptor, parameters_of, result_of}
+use Rattle.dj_names.specs.Types.{JType, StaticType, Of}
 use Rattle.dj_names.specs.Assignable.{object_name}
 use Rattle.dj_values.specs.Deciding.{is_name, is_type, is_array_clone, is_reference, is_some_and, is_subtype, is_interface}
 use Rattle.dj_kinds.specs.Search.{method_order}
@@ -90,11 +90,12 @@ candidates headers members call =
     let methods = named_in headers members call.class call.name in
     filter (is_candidate headers call) (filter_map (λ wanted. first_with methods wanted classes) (distinct (flat_map (λ class. map parameters (methods class)) classes)))
 
--- what the one takes the other takes too (15.12.2.5)
+-- what the one takes the other takes too, for any arguments (15.12.2.5)
 abbrev pub is_more_specific : List Header → MethodIn → MethodIn → Bool
 is_more_specific headers one other = all_pairs (is_subtype headers) (parameters one.method) (parameters other.method)
 
--- the only candidate that is more specific than each
+-- the only candidate that is more specific than each; where several have equal parameters, only the first that the search meets is one,
+-- in place of the rules of 15.12.2.5 on methods that override each other
 abbrev pub chosen : List Header → List Members → Call → Option MethodIn
 chosen headers members call =
     let all = candidates headers members call in

@@ -28,14 +28,6 @@ sequence next (Continue label) = pure (Continue label)
 sequence next (Return result) = pure (Return result)
 sequence next Misfit = pure Misfit
 
--- what each break leads to; other completions stay
-abbrev pub onward : (ℕ → Meaning Completion) → Completion → Meaning Completion
-onward go Normal = pure Normal
-onward go (Break label) = go label
-onward go (Continue label) = pure (Continue label)
-onward go (Return result) = pure (Return result)
-onward go Misfit = pure Misfit
-
 -- one break leads to this, the others stay
 abbrev pub instead : ℕ → Meaning Completion → ℕ → Meaning Completion
 instead own next label = if label == own then next else pure (Break label)

@@ -6,6 +6,7 @@ use Rattle.dj_names.specs.Types.{JType, Class, parameters_of}
 use Rattle.dj_syntax.specs.Trees.{Exp, Text, Truth, This, Variable, ClassOf, Field, Static, Element, Call, StaticCall, SuperCall, NewArray, Cast, InstanceOf, Negative, Not, Binary, Choice, Assign, Exps, NoExps, AndExp}
 use Rattle.dj_syntax.specs.Trees as trees
 use Rattle.dj_values.specs.Values.{Value, Int, Long, Null, New, ClassConstant}
+use Rattle.dj_values.specs.Fits.{element_of}
 use Rattle.dj_values.specs.Outcomes.{More, Reply, ask_value, outside}
 use Rattle.dj_meaning.specs.Operators.{operate, truth, truth_of}
 use Rattle.dj_meaning.specs.UnaryOperators.{negated, inverted}
@@ -72,7 +73,8 @@ abbrev mutual
   value context scope (Static class name) =
       with (named_field context.headers context.members context.class class name) (λ field. outside context.headers (static_read (Class class) name field))
   value context scope (Element array index) =
-      value context scope array >>= λ found. value context scope index >>= λ place. outside context.headers (element_read found place)
+      with (option_and_then element_of (plain (type_of context scope array))) (λ element.
+      value context scope array >>= λ found. value context scope index >>= λ place. outside context.headers (element_read found place))
   value context scope (Call object name arguments) =
       given (call_on context (object_target context name (plain (type_of context scope object)) (types_of context scope arguments)) (value context scope object) (values context scope arguments))
   value context scope (StaticCall class name arguments) =

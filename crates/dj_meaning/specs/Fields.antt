@@ -36,7 +36,8 @@ sole [] = None
 sole (one ∷ []) = Some one
 sole (one ∷ other ∷ rest) = None
 
--- what is known of a field: whether it is static, its type, and the value of one that is a constant variable: static and final, with a constant (4.12.4)
+-- what is known of a field: whether it is static, its type, and the value of one that is a constant variable (4.12.4); of final fields
+-- with a constant only static ones count, since the constant of another one says nothing (JVMS 4.7.2)
 pub record KnownField : Type 0 where
   pub of_class : Bool
   pub type : JType

@@ -7,7 +7,7 @@ use Rattle.dj_names.specs.Types.{JType, Class, parameters_of, result_of}
 use Rattle.dj_syntax.specs.declared.variable.VarKind.{VarKind}
 use Rattle.dj_syntax.specs.declared.variable.VarKind.TheVariants as kind
 use Rattle.dj_syntax.specs.declared.variable.Var.{Var}
-use Rattle.dj_syntax.specs.Trees.{Exp, Stm, Block, Labelled, Declare, Set, SetField, SetStatic, SetElement, Run, If, While, Switch, Throw, Rethrow, Try, Synchronized, Construct, Do, For, Finally, Stms, Empty, And, Groups, NoGroups, AndGroup, Catches, NoCatches, AndCatch, Body}
+use Rattle.dj_syntax.specs.Trees.{Stm, Block, Labelled, Declare, Set, SetField, SetStatic, SetElement, Run, If, While, Switch, Throw, Rethrow, Try, Synchronized, Construct, Do, For, Finally, Stms, Empty, And, Groups, NoGroups, AndGroup, Catches, NoCatches, AndCatch, Body}
 use Rattle.dj_syntax.specs.Trees as trees
 use Rattle.dj_values.specs.Values.{RefValue, Value, Answer, PutStatic, Show}
 use Rattle.dj_values.specs.Fits.{is_static, this_of, behind_this, element_of}
@@ -20,59 +20,59 @@ use Rattle.dj_meaning.specs.Runs.{Store, Meaning, pure, stop, stuck, ◌>>=◌, 
 use Rattle.dj_meaning.specs.Expressions.{either, value, values, test, effect}
 use Rattle.dj_meaning.specs.Completions.{Completion, Normal, Break, Continue, Return, Misfit, sequence, taken, turns, do_turns, thrown, handled, finished, returns_nothing, returns_value}
 use Rattle.dj_meaning.specs.Declarations.{caught, declared, within, behind, locally, opened, passed, initialised}
-use Rattle.dj_meaning.specs.Statements.{synchronized, does, field_set, element_set, constructed, has_label, label_for, number_of, switched}
+use Rattle.dj_meaning.specs.Statements.{Place, First, Behind, Elsewhere, label_at, synchronized, does, field_set, element_set, constructed, has_label, label_for, number_of, switched}
 
 -- ---- statements
 
 abbrev mutual
-  -- a statement, each of whose loops has at most so many turns; given the label right before it
-  pub run : Context → Scope → ℕ → Option ℕ → Stm → Meaning Completion
-  run context scope bound own (Block list) = run_then context scope bound list (pure Normal)
-  run context scope bound own (Labelled label statement) = run context scope bound (Some label) statement >>= taken label
-  run context scope bound own (Declare variable kind initial) =
+  -- a statement at a place, each of whose loops has at most so many turns
+  pub run : Context → Scope → ℕ → Place → Stm → Meaning Completion
+  run context scope bound place (Block list) = run_then context scope bound list (pure Normal)
+  run context scope bound place (Labelled label statement) = run context scope bound (Behind label) statement >>= taken label
+  run context scope bound place (Declare variable kind initial) =
       opened scope variable >>= λ done. initialised context (with_type variable kind scope) variable initial
-  run context scope bound own (Set variable new) = assigned context.headers scope variable (value context scope new) >>= λ kept. pure Normal
-  run context scope bound own (SetField object name new) =
+  run context scope bound place (Set variable new) = assigned context.headers scope variable (value context scope new) >>= λ kept. pure Normal
+  run context scope bound place (SetField object name new) =
       with (option_and_then (selected context.headers context.members context.class name) (plain (type_of context scope object)))
       (field_set context name (value context scope object) (value context scope new))
-  run context scope bound own (SetStatic class name new) =
+  run context scope bound place (SetStatic class name new) =
       with (named_field context.headers context.members context.class class name) (λ field.
       value context scope new >>= fitted context.headers field.type >>= λ kept. does context (ask (PutStatic (Class class) name field.type kept)))
-  run context scope bound own (SetElement array index new) =
+  run context scope bound place (SetElement array index new) =
       with (option_and_then element_of (plain (type_of context scope array)))
       (element_set context (value context scope array) (value context scope index) (value context scope new))
-  run context scope bound own (Run call) = effect context scope call >>= λ dropped. pure Normal
-  run context scope bound own (If condition first second) =
+  run context scope bound place (Run call) = effect context scope call >>= λ dropped. pure Normal
+  run context scope bound place (If condition first second) =
       test context scope condition >>= λ answer. either answer (run_then context scope bound first (pure Normal)) (run_then context scope bound second (pure Normal))
-  run context scope bound own (While condition body) =
-      turns bound own (test context scope condition) (pure tt) (run_then context scope bound body (pure Normal))
-  run context scope bound own (Switch on groups) =
+  run context scope bound place (While condition body) =
+      turns bound (label_at place) (test context scope condition) (pure tt) (run_then context scope bound body (pure Normal))
+  run context scope bound place (Switch on groups) =
       value context scope on >>= λ found. outside context.headers (number_of found) >>= λ number. switched (run_from context scope bound groups) (label_for groups number)
-  run context scope bound own (trees.Break label) = pure (Break label)
-  run context scope bound own (trees.Continue label) = pure (Continue label)
-  run context scope bound own (trees.Return None) = returns_nothing context.result
-  run context scope bound own (trees.Return (Some result)) = value context scope result >>= returns_value context context.result
-  run context scope bound own (Throw exception) = value context scope exception >>= thrown context
-  run context scope bound own (Rethrow variable) = look scope variable >>= thrown context
-  run context scope bound own (Try body clauses) =
+  run context scope bound place (trees.Break label) = pure (Break label)
+  run context scope bound place (trees.Continue label) = pure (Continue label)
+  run context scope bound place (trees.Return None) = returns_nothing context.result
+  run context scope bound place (trees.Return (Some result)) = value context scope result >>= returns_value context context.result
+  run context scope bound place (Throw exception) = value context scope exception >>= thrown context
+  run context scope bound place (Rethrow variable) = look scope variable >>= thrown context
+  run context scope bound place (Try body clauses) =
       λ state. handled (run_clauses context scope bound clauses) (run_then context scope bound body (pure Normal) state)
-  run context scope bound own (Synchronized monitor body) =
+  run context scope bound place (Synchronized monitor body) =
       value context scope monitor >>= synchronized context (run_then context scope bound body (pure Normal))
-  run context scope bound own (Construct this arguments) =
-      constructed context (construct_target context this (types_of context scope arguments)) (values context scope arguments)
-  run context scope bound own (Do body condition) =
-      do_turns bound own (test context scope condition) (run_then context scope bound body (pure Normal))
-  run context scope bound own (For condition variable step body) =
-      turns bound own (test context scope condition) (assigned context.headers scope variable (value context scope step) >>= λ kept. pure tt)
+  run context scope bound place (Construct this arguments) =
+      constructed context place (construct_target context this (types_of context scope arguments)) (values context scope arguments)
+  run context scope bound place (Do body condition) =
+      do_turns bound (label_at place) (test context scope condition) (run_then context scope bound body (pure Normal))
+  run context scope bound place (For condition variable step body) =
+      turns bound (label_at place) (test context scope condition) (assigned context.headers scope variable (value context scope step) >>= λ kept. pure tt)
       (run_then context scope bound body (pure Normal))
-  run context scope bound own (Finally body last) =
+  run context scope bound place (Finally body last) =
       λ state. finished (run_then context scope bound last (pure Normal)) (run_then context scope bound body (pure Normal) state)
 
   -- statements in order, and what comes behind them in their scope: what a statement declares is of it and of what follows alone
   pub run_then : Context → Scope → ℕ → Stms → Meaning Completion → Meaning Completion
   run_then context scope bound Empty next = next
   run_then context scope bound (And first rest) next =
-      locally (declared first) (run context scope bound None first >>= sequence (run_then context (within (declared first) scope) bound rest next))
+      locally (declared first) (run context scope bound Elsewhere first >>= sequence (run_then context (within (declared first) scope) bound rest next))
 
   -- the groups of a switch, one after another
   pub run_groups : Context → Scope → ℕ → Groups → Meaning Completion
@@ -98,6 +98,12 @@ abbrev mutual
 abbrev pub run_all : Context → Scope → ℕ → Stms → Meaning Completion
 run_all context scope bound list = run_then context scope bound list (pure Normal)
 
+-- the statements of a body, of which the first stands at its beginning
+abbrev pub run_statements : Context → Scope → ℕ → Stms → Meaning Completion
+run_statements context scope bound Empty = pure Normal
+run_statements context scope bound (And first rest) =
+    locally (declared first) (run context scope bound First first >>= sequence (run_all context (within (declared first) scope) bound rest))
+
 -- ---- bodies
 
 -- a completion at the end of a body, given the method's result (8.4.7): what fits no method is stuck
@@ -121,7 +127,7 @@ of_parameter {A = A} items variable = by_kind variable.kind
 
 -- a body, whose parameters are in scope (8.4.1)
 abbrev pub run_body : Context → Body → ℕ → Meaning (Option Value)
-run_body context body bound = run_all context (of_parameter (parameters_of body.descriptor)) bound body.statements >>= ended context.result
+run_body context body bound = run_statements context (of_parameter (parameters_of body.descriptor)) bound body.statements >>= ended context.result
 
 -- what the run of a body knows, given its arguments, `this` first where it has one
 abbrev pub context_of : List Header → List ClassMembers → Body → List Value → Context

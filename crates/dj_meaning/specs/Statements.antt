@@ -1,5 +1,5 @@
--- Stores, constructor calls, monitors and switches: what statements are made of (JLS 8.8.7.1, 14.11, 14.19, 15.26.1).
-use Rattle.std.specs.Prelude.{ℤ, Bool, true, false, ◌||◌, List, Option, Some, None, if◌then◌else◌}
+-- Stores, constructor calls, monitors and switches: what statements are made of (JLS 8.8.7, 8.8.7.1, 14.11, 14.19, 15.26.1).
+use Rattle.std.specs.Prelude.{ℕ, ℤ, Bool, true, false, ◌||◌, List, Option, Some, None, if◌then◌else◌}
 use Rattle.std.specs.List.{list_any}
 use Rattle.std.specs.Ordering.{int_eq}
 use Rattle.dj_names.specs.Types.{JType}
@@ -14,6 +14,18 @@ use Rattle.dj_meaning.specs.Objects.{with_int, with_object, field_written, eleme
 use Rattle.dj_meaning.specs.Runs.{Meaning, pure, stuck, ◌>>=◌, fitted}
 use Rattle.dj_meaning.specs.Expressions.{this_value, call_on, value}
 use Rattle.dj_meaning.specs.Completions.{Completion, Normal, holding}
+
+-- where a statement stands: at the beginning of a body, right behind a label, or elsewhere
+pub data Place : Type 0 where
+  First : Place
+  Behind : ℕ → Place
+  Elsewhere : Place
+
+-- the label right before a statement
+abbrev pub label_at : Place → Option ℕ
+label_at First = None
+label_at (Behind label) = Some label
+label_at Elsewhere = None
 
 -- an operation that gives nothing, or whose result is dropped
 abbrev pub does : Context → Reply (Option Value) → Meaning Completion
@@ -30,10 +42,12 @@ abbrev pub element_set : Context → Meaning Value → Meaning Value → Meaning
 element_set context array index new element =
     array >>= λ found. index >>= λ place. new >>= fitted context.headers element >>= λ kept. does context (element_written context.headers found place kept)
 
--- a call of another constructor on `this`, which a constructor alone has (8.8.7.1)
-abbrev pub constructed : Context → Option Target → (List JType → Meaning (List Value)) → Meaning Completion
-constructed context asked arguments =
+-- a call of another constructor on `this`, which stands at the beginning of a constructor's body alone (8.8.7, 8.8.7.1)
+abbrev pub constructed : Context → Place → Option Target → (List JType → Meaning (List Value)) → Meaning Completion
+constructed context First asked arguments =
     if context.constructs then (call_on context asked (this_value context) arguments >>= λ nothing. pure Normal) else stuck
+constructed context (Behind label) asked arguments = stuck
+constructed context Elsewhere asked arguments = stuck
 
 -- a monitor that is no null, and a part that holds it
 abbrev pub synchronized : Context → Meaning Completion → Value → Meaning Completion

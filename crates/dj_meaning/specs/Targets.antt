@@ -1,4 +1,4 @@
--- What a call asks for: how the method is found, where, its name and its descriptor (JLS 13.1, 15.9.3, 15.12.3, 15.12.4.3).
+-- What a call asks for: how the method is found, where, its name and its descriptor (JLS 15.9.3, 15.12.3, 15.12.4.3).
 use Rattle.std.specs.Prelude.{Bool, true, false, not, List, Option, Some, None, option_and_then, codes, if◌then◌else◌}
 use Rattle.dj_names.specs.declared.header.Header.{Header}
 use Rattle.dj_names.specs.Headers.{Name}
@@ -11,7 +11,7 @@ use Rattle.dj_kinds.specs.Choice.{searched_class}
 use Rattle.dj_meaning.specs.Members.{Members, is_private, is_of_class}
 use Rattle.dj_meaning.specs.Calls.{MethodIn, chosen}
 
--- what a call asks for; the owner is the receiver's type, the class that is named, or the one behind `super`
+-- what a call asks for; the owner is the receiver's type, the class that is named, or the one behind `super`, also where 13.1 would have Object
 pub record Target : Type 0 where
   pub kind : InvokeKind
   pub owner : JType

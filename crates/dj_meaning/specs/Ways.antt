@@ -29,12 +29,12 @@ one_of first second = record {
   goes_on = λ label. first.goes_on label || second.goes_on label;
 }
 
--- one behind the other
+-- one, and where it completes normally another behind it
 abbrev pub both_of : Ways → Ways → Ways
 both_of first second = record {
   falls = first.falls && second.falls;
-  jumps = λ label. first.jumps label || second.jumps label;
-  goes_on = λ label. first.goes_on label || second.goes_on label;
+  jumps = λ label. first.jumps label || (first.falls && second.jumps label);
+  goes_on = λ label. first.goes_on label || (first.falls && second.goes_on label);
 }
 
 -- under a label
@@ -48,6 +48,11 @@ labelled own inner = record {
 -- a loop that ends normally where this is so, and takes the continues of its own label
 abbrev pub repeated : Option ℕ → Bool → Ways → Ways
 repeated own falls body = record { falls = falls; jumps = body.jumps; goes_on = λ label. not (is_own own label) && body.goes_on label }
+
+-- the body of a loop comes to its end, or goes on by a continue of the loop's own label
+abbrev pub comes_round : Option ℕ → Ways → Bool
+comes_round None body = body.falls
+comes_round (Some own) body = body.falls || body.goes_on own
 
 -- the test is the literal `true`, which always holds
 abbrev pub is_true : Exp → Bool
@@ -97,9 +102,9 @@ abbrev mutual
   ways own (Try body clauses) = one_of (all_ways body) (clause_ways clauses)
   ways own (Synchronized monitor body) = all_ways body
   ways own (Construct this arguments) = normally_if true
-  ways own (Do body test) = repeated own (not (is_true test)) (all_ways body)
+  ways own (Do body test) = repeated own (comes_round own (all_ways body) && not (is_true test)) (all_ways body)
   ways own (For test variable step body) = repeated own (not (is_true test)) (all_ways body)
-  ways own (Finally body last) = both_of (all_ways body) (all_ways last)
+  ways own (Finally body last) = both_of (all_ways last) (all_ways body)
 
   -- statements in order
   pub all_ways : Stms → Ways

@@ -12,23 +12,28 @@ ghost use Rattle.dj_meaning.specs.Declarations.{behind, joined};
 ghost use Rattle.dj_meaning.specs.Variables.{EachInStms};
 ghost use Rattle.dj_meaning.specs.Monitors.{HoldsStill};
 ghost use Rattle.dj_meaning.specs.Ways.{all_ways, EndsSo};
-ghost use Rattle.dj_meaning.specs.Meaning.{run_all, run_then};
+ghost use Rattle.dj_meaning.specs.Meaning.{run_all, run_then, run_statements};
 ghost use Rattle.dj_meaning.specs.Preserving.{Preserves};
 
-/// Statements that complete, or leave by an exception, give back the monitors that they enter.
+/// Statements that complete, or leave by an exception, give back the monitors that they enter, anywhere and as those of a body.
+/// This is said of the list of monitors that a run keeps: `holding` alone changes it, with each Enter and Exit that is shown.
 pub fn monitors_are_given_back()
     ensures held { (context : Context) (scope : Scope) (bound : ℕ) (list : Stms) (state : State Store) → HoldsStill state.store.held (run_all context scope bound list state) }
+    ensures of_body { (context : Context) (scope : Scope) (bound : ℕ) (list : Stms) (state : State Store) → HoldsStill state.store.held (run_statements context scope bound list state) }
 {}
 
 /// A run neither reads nor changes a variable that its statements don't name.
 pub fn unnamed_variables_stay()
     ensures stays { (unnamed : Var) (found : Option Value) (context : Context) (scope : Scope) (bound : ℕ) (list : Stms) → EachInStms (λ variable. is_same_variable variable unnamed ≡ false) list
         → (state : State Store) → run_all context scope bound list (with_store (with_value unnamed found) state) ≡ map_state (with_store (with_value unnamed found)) (run_all context scope bound list state) }
+    ensures of_body { (unnamed : Var) (found : Option Value) (context : Context) (scope : Scope) (bound : ℕ) (list : Stms) → EachInStms (λ variable. is_same_variable variable unnamed ≡ false) list
+        → (state : State Store) → run_statements context scope bound list (with_store (with_value unnamed found) state) ≡ map_state (with_store (with_value unnamed found)) (run_statements context scope bound list state) }
 {}
 
 /// Statements complete only in the ways of their form.
 pub fn statements_end_as_formed()
     ensures ways { (context : Context) (scope : Scope) (bound : ℕ) (list : Stms) (state : State Store) → EndsSo (all_ways list) (run_all context scope bound list state) }
+    ensures of_body { (context : Context) (scope : Scope) (bound : ℕ) (list : Stms) (state : State Store) → EndsSo (all_ways list) (run_statements context scope bound list state) }
 {}
 
 /// Two lists run one behind the other, in the scope that the first one leaves.

@@ -1,7 +1,6 @@
 pub mod StraightStacks
 pub mod StraightBuilt
 pub mod StraightLaws
-pub mod StraightShows
 pub mod DeclaredLemmas
 pub mod StraightMethodLemmas
 pub mod Examples

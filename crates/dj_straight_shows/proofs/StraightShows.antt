@@ -29,7 +29,7 @@ use Rattle.dj_meaning.specs.StaticTypes.{Context, Scope, plain, type_of}
 use Rattle.dj_meaning.specs.Runs.{Store, Meaning}
 use Rattle.dj_meaning.specs.Expressions.{floating, value}
 use Rattle.dj_meaning.specs.Completions.{Return}
-use Rattle.dj_meaning.specs.Meaning.{run_all, ended, of_parameter, context_of, entered, source_show}
+use Rattle.dj_meaning.specs.Meaning.{run_statements, ended, of_parameter, context_of, entered, source_show}
 use Rattle.dj_bytecode.specs.Machine.{Locals, local_slots, steps, slots_of, first_locals, bytecode_show}
 use Rattle.dj_bytecode.specs.SameShows.{AreArgumentsOf, SameShows}
 use Rattle.dj_bytecode.proofs.Growth.{more_shows_more}
@@ -163,7 +163,7 @@ value-is context scope numbers (Calculation operation left right) state has uses
 
 -- a statement that returns an int, where the method's result is int
 returns-int : (context : Context) (scope : Scope) (turns : ℕ) (exp : Exp) (number : ℤ) (state : State Store) → context.result ≡ Some types.Int → value context scope exp state ≡ Is (Int number) state
-    → run_all context scope turns (And (trees.Return (Some exp)) Empty) state ≡ Is (Return (Some (Int number))) state
+    → run_statements context scope turns (And (trees.Return (Some exp)) Empty) state ≡ Is (Return (Some (Int number))) state
 returns-int context scope turns exp number state int is = rw (is, int)
 
 source-is : (headers : List Header) (members : List ClassMembers) (numbers : List ℤ) (formula : Formula) (body : Body) (answers : List Answer) (turns : ℕ) → UsesParameters (length numbers) formula → is_static body.flags ≡ true
@@ -179,8 +179,8 @@ source-is headers members numbers formula body answers turns uses static descrip
       typed = λ slot within. ap (λ these. slice_get (parameters_of these) slot) descriptor ∙ type-is (length numbers) slot within;
       found = λ slot within. ap (λ flag. slice_get (behind_this flag (ints numbers)) slot) static ∙ argument-is numbers slot within;
     } in
-    let ran : run_all context scope turns body.statements state ≡ Is (Return (Some (Int number))) state =
-    ap (λ list. run_all context scope turns list state) one ∙ returns-int context scope turns (exp_of formula) number state int (value-is context scope numbers formula state has uses) in
+    let ran : run_statements context scope turns body.statements state ≡ Is (Return (Some (Int number))) state =
+    ap (λ list. run_statements context scope turns list state) one ∙ returns-int context scope turns (exp_of formula) number state int (value-is context scope numbers formula state has uses) in
     ap (λ outcome. shown (bind outcome (ended (result_of body.descriptor)))) ran ∙ ap (λ result. shown (ended result (Return (Some (Int number))) state)) int
 
 -- ---- the code
