@@ -2,7 +2,7 @@
 
 ghost use Rattle.std.specs.Prelude.{◌≡◌, ◌++◌, ◌∷◌, [], false, IfOk, MatchResult, None, Some, if◌then◌else◌, map, option_map, reverse};
 ghost use Rattle.dj_names.specs.Types.{view_type};
-ghost use Rattle.dj_syntax.specs.Trees.{Assign, Binary, Cast, Choice, Negative, Not, exps_of, view_exp};
+ghost use Rattle.dj_syntax.specs.Trees.{Assign, Binary, Cast, Choice, Negative, NewArray, Not, exps_of, view_exp};
 ghost use Rattle.dj_grammar.specs.Frames.{Opens, called, collapsed, creating, is_creation, joined, opened, signed, testing, type_tested, waiting};
 ghost use Rattle.dj_expressions.specs.declared.frames.Pending.TheVariants as pendings;
 ghost use Rattle.dj_grammar.specs.Brackets.{enclosing, is_parenthesis};
@@ -12,7 +12,7 @@ ghost use Rattle.dj_tokens.specs.DottedViews.{view_name};
 ghost use Rattle.dj_expressions.specs.Views.{view_callee, view_joint, view_open, view_opener, view_standing};
 
 use dj_names::{Boxed, ClassName, Items, JType, Units};
-use dj_syntax::{Exp, Op, Var};
+use dj_syntax::{Exp, Op, Var, boxed_list};
 use dj_tokens::{DottedName, negated_int, negated_long};
 use std::alloc::{AllocError, Global};
 
@@ -271,6 +271,23 @@ pub fn opened_again(
 pub fn called(alloc: Global, callee: Callee, arguments: Items<Exp>) -> Result<Exp, AllocError>
     ensures called { IfOk result (λ made. view_exp made ≡ called (view_callee callee) (exps_of (map view_exp arguments))) }
 {
+    match boxed_list(alloc, arguments) {
+        Ok(arguments) => called_with_all(alloc, callee, arguments),
+        Err(error) => {
+            discard(callee);
+            Err(error)
+        }
+    }
+}
+
+/// The same, whose arguments are kept already.
+fn called_with_all(
+    alloc: Global,
+    callee: Callee,
+    arguments: Boxed<Items<Exp>>,
+) -> Result<Exp, AllocError>
+    ensures called { IfOk result (λ made. view_exp made ≡ called (view_callee callee) (exps_of (map view_exp arguments))) }
+{
     match callee {
         Callee::OfObject(object, name) => {
             let object = Boxed::new(alloc, object)?;
@@ -281,6 +298,19 @@ pub fn called(alloc: Global, callee: Callee, arguments: Items<Exp>) -> Result<Ex
         Callee::Creation(class) => Ok(Exp::New(class, arguments)),
         Callee::Own(_) | Callee::Helper => Ok(Exp::Null),
     }
+}
+
+/// A new array of these sizes.
+pub fn new_array(
+    alloc: Global,
+    kind: JType,
+    sizes: Items<Exp>,
+    more: u32,
+) -> Result<Exp, AllocError>
+    ensures made { IfOk result (λ made. view_exp made ≡ NewArray (view_type kind) (exps_of (map view_exp sizes)) more) }
+{
+    let sizes = boxed_list(alloc, sizes)?;
+    Ok(Exp::NewArray(kind, sizes, more))
 }
 
 /// The operand of an `instanceof`, or what else waits.

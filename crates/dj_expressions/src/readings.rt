@@ -9,7 +9,7 @@ ghost use Rattle.dj_tokens.specs.Dotted.{type_of_name, value_of};
 ghost use Rattle.dj_tokens.specs.DottedViews.{view_name};
 ghost use Rattle.dj_expressions.specs.Views.{view_joint, view_open, view_reading, view_standing};
 
-use crate::frames::{Callee, Joint, Pending, Standing, called, discard, take_test};
+use crate::frames::{Callee, Joint, Pending, Standing, called, discard, new_array, take_test};
 use dj_names::{Boxed, Items, JType};
 use dj_syntax::{Exp, Var};
 use dj_tokens::DottedName;
@@ -108,7 +108,7 @@ impl Reading {
             Reading::Named(name, pending) => Ok(Some(named_value(alloc, name, pending)?)),
             Reading::Typed(kind, pending) => typed_value(alloc, kind, pending),
             Reading::Sized(kind, sizes, more, pending) => {
-                let value = Exp::NewArray(kind, sizes, more);
+                let value = new_array(alloc, kind, sizes, more)?;
                 Ok(Some(Standing { value, pending }))
             }
             Reading::Called(callee, arguments, pending) => {

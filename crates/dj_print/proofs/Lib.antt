@@ -1,3 +1,4 @@
+pub mod ComparedText
 pub mod Composing
 pub mod ListTexts
 pub mod NamesAreAscii

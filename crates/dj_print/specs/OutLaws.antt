@@ -1,10 +1,11 @@
 -- Texts printed one after another are printed as one.
 use Rattle.std.proofs.Common.{◌≡◌, ℕ, Bool, true, false, List, [], ◌++◌, refl, sym, ap, ◌∙◌, subst, append_assoc, append-nil, arith}
+use Rattle.std.proofs.lemmas.List.{append_cancel_left}
 use Rattle.std.specs.Prelude.{Option}
 use Rattle.std.proofs.lemmas.Bool.{false≢true}
 use Rattle.dj_outer.specs.Sink.{Puts}
 use Rattle.dj_outer.proofs.PutsLemmas.{puts-nothing, puts-then, puts-stop}
-use Rattle.dj_print.specs.Outs.{Grows, outcome, Tells}
+use Rattle.dj_print.specs.Outs.{Compares, Grows, outcome, Tells}
 
 -- ---- memory
 
@@ -53,3 +54,29 @@ tells-put one = record { going = λ is. one; stopped = λ is. absurd (false≢tr
 -- nothing is put to one that was
 pub tells-stopped : (taken : Option (List ℕ)) (faults : ℕ) (text : List ℕ) → Tells true true taken taken faults faults text
 tells-stopped taken faults text = record { going = λ is. absurd (false≢true (sym is)); stopped = λ is. (refl, refl, refl) }
+
+-- ---- bytes that are compared
+
+pub compares-nothing : (differs : Bool) (left : List ℕ) → Compares differs differs left left []
+compares-nothing differs left = record { same = λ is. (is, refl); other = λ is also. absurd (false≢true (sym is ∙ also)) }
+
+-- what doesn't begin with the first text doesn't begin with both; nor what goes on behind the first with another than the second
+other-then : (between : Bool) {old new : Bool} {left_old left_between left_new first second : List ℕ}
+    → Compares old between left_old left_between first → Compares between new left_between left_new second
+    → old ≡ false → new ≡ true → (rest : List ℕ) → ¬ (left_old ≡ (first ++ second) ++ rest)
+other-then true {first = first} {second = second} one two is also rest whole =
+    one.other is refl (second ++ rest) (whole ∙ append_assoc first second rest)
+other-then false {left_between = left_between} {first = first} {second = second} one two is also rest whole =
+    two.other refl also rest
+    (append_cancel_left first left_between (second ++ rest) (sym (one.same refl).1 ∙ whole ∙ append_assoc first second rest))
+
+pub compares-then : {old between new : Bool} {left_old left_between left_new first second : List ℕ}
+    → Compares old between left_old left_between first → Compares between new left_between left_new second
+    → Compares old new left_old left_new (first ++ second)
+compares-then {between = between} {left_new = left_new} {first = first} {second = second} one two = record {
+  same = λ is.
+      let behind = two.same is in
+      let before = one.same behind.0 in
+      (before.0, before.1 ∙ ap (λ left. first ++ left) behind.1 ∙ sym (append_assoc first second left_new));
+  other = λ is also. other-then between one two is also;
+}

@@ -1,4 +1,4 @@
--- What is printed to takes of a text: all of it, or nothing more once it couldn't take a piece.
+-- What is printed to takes of a text: all of it, or nothing more once it couldn't take a piece. Bytes that are compared take what they go on with.
 use Rattle.std.specs.Prelude.{◌≡◌, ℕ, Bool, true, false, List, ◌++◌, Option, Result, Ok, Err}
 use Rattle.dj_outer.specs.declared.files.Failed.{Failed}
 use Rattle.dj_outer.specs.Sink.{Puts}
@@ -17,3 +17,8 @@ outcome false = Ok tt
 pub record Tells (stopped_old stopped_new : Bool) (taken_old taken_new : Option (List ℕ)) (faults_old faults_new : ℕ) (text : List ℕ) : Type 0 where
   pub going : stopped_old ≡ false → Puts (outcome stopped_new) taken_old taken_new faults_old faults_new text
   pub stopped : stopped_old ≡ true → (stopped_new ≡ true) × (taken_new ≡ taken_old) × (faults_new ≡ faults_old)
+
+-- bytes that don't differ are the text and what is left of them; those that begin to differ don't begin with it
+pub record Compares (differs_old differs_new : Bool) (left_old left_new text : List ℕ) : Type 0 where
+  pub same : differs_new ≡ false → (differs_old ≡ false) × (left_old ≡ text ++ left_new)
+  pub other : differs_old ≡ false → differs_new ≡ true → (rest : List ℕ) → ¬ (left_old ≡ text ++ rest)

@@ -1,6 +1,6 @@
-//! What text is printed to: memory that grows, or a sink.
+//! What text is printed to: memory that grows, a sink, or bytes that it is compared with.
 
-ghost use Rattle.std.specs.Prelude.{◌≡◌, ◌++◌, ℕ, List, []};
+ghost use Rattle.std.specs.Prelude.{◌≡◌, ◌++◌, ℕ, List, [], MatchOption};
 
 use dj_outer::{Failed, Sink};
 use std::alloc::Global;
@@ -84,4 +84,38 @@ impl<T: Sink> Out for Told<'_, T> {
     ghost nothing = { λ out. (tells-nothing out.stopped (T.taken out.sink.now) (T.faults out.sink.now), refl) };
 
     ghost then = { λ old between new first second one two. (tells-then one.0 two.0, two.1 ∙ one.1) };
+}
+
+/// Bytes that a text is compared with: what is left of them behind it, until they differ.
+pub struct Compared<'a> {
+    pub left: &'a [u8],
+    pub differs: bool,
+}
+
+impl Out for Compared<'_> {
+    ghost use Rattle.dj_print.specs.Outs.{Compares};
+    ghost use Rattle.dj_print.specs.OutLaws.{compares-nothing, compares-then};
+
+    ghost prints = { λ old new text. Compares old.differs new.differs old.left.now new.left.now text };
+
+    fn put(&mut self, piece: &[u8]) {
+        if self.differs {
+            return;
+        }
+        match behind(self.left, piece) {
+            Some(left) => self.left = left,
+            None => self.differs = true,
+        }
+    }
+
+    ghost nothing = { λ out. compares-nothing out.differs out.left.now };
+
+    ghost then = { λ old between new first second one two. compares-then one two };
+}
+
+/// What is left of bytes behind a piece, where they begin with it.
+fn behind<'a>(bytes: &'a [u8], piece: &[u8]) -> Option<&'a [u8]>
+    ensures left { MatchOption result ((rest : List ℕ) → ¬ (bytes.now ≡ piece.now ++ rest)) (λ left. bytes.now ≡ piece.now ++ left.now) }
+{
+    bytes.strip_prefix(piece)
 }

@@ -1,6 +1,6 @@
-//! The printer: the one text of a unit, as bytes or into a sink.
+//! The printer: the one text of a unit, as bytes, into a sink, or compared with bytes.
 
-ghost use Rattle.std.specs.Prelude.{◌≡◌, codes, if◌then◌else◌, IfOk, IfSome, is_some, map};
+ghost use Rattle.std.specs.Prelude.{◌≡◌, ◌↔◌, codes, if◌then◌else◌, IfOk, IfSome, IsTrue, is_some, map};
 ghost use Rattle.std.specs.List.{AllByRecursion, flat_map};
 ghost use Rattle.dj_outer.specs.Sink.{Puts};
 ghost use Rattle.dj_syntax.specs.Items.{render};
@@ -17,7 +17,7 @@ mod statement;
 mod text;
 mod types;
 
-use crate::out::{Memory, Out, Told};
+use crate::out::{Compared, Memory, Out, Told};
 use crate::print::member::{field, helper, modifiers};
 use crate::print::method::method;
 use crate::print::names::{class_list, class_name};
@@ -55,6 +55,21 @@ pub fn print_unit<T: Sink>(unit: &Unit, sink: &mut T) -> Result<(), Failed>
     whole_unit(&mut out, unit);
     let Told { sink: _, stopped } = out;
     if stopped { Err(Failed) } else { Ok(()) }
+}
+
+/// Whether bytes are the one text of a unit. It takes no memory.
+#[tactic(auto, unfolding(dj_syntax::specs::UnitText::unit_text))]
+pub fn is_text(unit: &Unit, bytes: &[u8]) -> bool
+    requires well_formed { IsWellFormed (view_unit unit.now) }
+    ensures text { IsTrue result ↔ (unit_text (view_unit unit.now) ≡ bytes.now) }
+{
+    let mut out = Compared {
+        left: bytes,
+        differs: false,
+    };
+    whole_unit(&mut out, unit);
+    let Compared { left, differs } = out;
+    !differs && left.is_empty()
 }
 
 // Prints a unit.

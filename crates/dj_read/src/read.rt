@@ -9,7 +9,7 @@ ghost use Rattle.dj_read.specs.Faults.{IsReadUnitFault};
 
 use dj_depth::is_deep;
 use dj_parse::parse_unit;
-use dj_print::unit_bytes;
+use dj_print::is_text;
 use dj_syntax::Unit;
 use dj_well_formed::is_well_formed;
 use std::alloc::{AllocError, Global};
@@ -47,7 +47,7 @@ pub fn read_unit(alloc: Global, bytes: &[u8]) -> Result<Unit, ReadUnitFault>
         return Err(ReadUnitFault::Deep);
     }
     let unit = parse_unit(alloc, bytes)?;
-    if is_spelled(alloc, &unit, bytes)? {
+    if is_spelled(&unit, bytes) {
         Ok(unit)
     } else {
         Err(ReadUnitFault::Misread)
@@ -55,11 +55,11 @@ pub fn read_unit(alloc: Global, bytes: &[u8]) -> Result<Unit, ReadUnitFault>
 }
 
 /// Whether a unit is well formed, and these bytes are its text.
-fn is_spelled(alloc: Global, unit: &Unit, bytes: &[u8]) -> Result<bool, AllocError>
-    ensures spelled { IfOk result (λ spelled. IsTrue spelled ↔ (IsWellFormed (view_unit unit.now) × (unit_text (view_unit unit.now) ≡ bytes.now))) }
+fn is_spelled(unit: &Unit, bytes: &[u8]) -> bool
+    ensures spelled { IsTrue result ↔ (IsWellFormed (view_unit unit.now) × (unit_text (view_unit unit.now) ≡ bytes.now)) }
 {
     if !is_well_formed(unit) {
-        return Ok(false);
+        return false;
     }
-    Ok(unit_bytes(alloc, unit)?.as_slice() == bytes)
+    is_text(unit, bytes)
 }

@@ -235,7 +235,7 @@ impl Lists {
     fn close_frame(&mut self, alloc: Global, frame: Frame) -> Result<Place, AllocError>
         ensures closed { IfOk result (λ next. (was : braces.Clause) (named : List ℕ) (before : plain.Reading) → view_blocks self.new next ≡ close_brace (with_place self.old (was, named, before)) (view_frame frame ∷ view_outer self.old.outer)) }
     {
-        match self.take_statements(alloc) {
+        match self.end_statements(alloc) {
             Ok(body) => self.close_list(alloc, frame, body),
             Err(error) => {
                 drop(frame);

@@ -137,7 +137,7 @@ impl Lists {
         ensures kept { self.new.outer ≡ self.old.outer }
     {
         let is_none = self.list.is_none_read();
-        let body = self.take_statements(alloc)?;
+        let body = self.end_statements(alloc)?;
         if is_none {
             labels.push(label)?;
             Ok(Cases { groups, labels })

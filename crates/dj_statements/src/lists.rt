@@ -15,7 +15,7 @@ ghost use Rattle.dj_expressions.specs.Views.{view_reading};
 use crate::frames::{Clause, Frame, Last, Listed};
 use dj_expressions::{Opener, Reading, open_more, take_start};
 use dj_names::Items;
-use dj_syntax::Stm;
+use dj_syntax::{Stm, fitted};
 use dj_tokens::KnownNames;
 use std::alloc::{AllocError, Global};
 use std::mem;
@@ -253,6 +253,17 @@ impl Lists {
     {
         let list = mem::replace(&mut self.list, Listed::new(alloc));
         list.flushed(alloc)
+    }
+
+    /// Takes all statements of the innermost list away, which ends here, in no more room than they take.
+    pub fn end_statements(&mut self, alloc: Global) -> Result<Items<Stm>, AllocError>
+        ensures taken { IfOk result (λ list. map view_stm list ≡ flushed (view_listed self.old.list)) }
+        ensures none { view_listed self.new.list ≡ no_statements }
+        ensures kept { self.new.outer ≡ self.old.outer }
+    {
+        let list = self.take_statements(alloc)?;
+        let list = fitted(alloc, list)?;
+        Ok(list)
     }
 
     /// The innermost list has these statements, of which the last one is kept apart.

@@ -11,7 +11,7 @@ use crate::frames::Clause;
 use crate::lists::{Lists, Place, ready};
 use dj_expressions::Reading;
 use dj_names::Items;
-use dj_syntax::Stm;
+use dj_syntax::{Stm, fitted};
 use dj_tokens::{KnownNames, Reader, Token, is_word, token_of};
 use std::alloc::{AllocError, Global};
 
@@ -76,7 +76,9 @@ impl Body {
         drop(place);
         let Lists { outer, list } = lists;
         drop(outer);
-        list.flushed(alloc)
+        let list = list.flushed(alloc)?;
+        let list = fitted(alloc, list)?;
+        Ok(list)
     }
 }
 

@@ -7,7 +7,7 @@ use crate::operator::Op;
 use crate::variable::Var;
 use dj_names::{Boxed, ClassName, Items, JType, Units};
 
-/// An expression.
+/// An expression. Lists in it stand in boxes, which keep it small: 40 bytes.
 #[derive(Drop)]
 pub enum Exp {
     /// An int literal, a negative one with its sign.
@@ -29,14 +29,14 @@ pub enum Exp {
     /// An element of an array at an index.
     Element(Boxed<Exp>, Boxed<Exp>),
     /// A call of an object's method.
-    Call(Boxed<Exp>, Units, Items<Exp>),
+    Call(Boxed<Exp>, Units, Boxed<Items<Exp>>),
     /// A call of a class's static method.
-    StaticCall(ClassName, Units, Items<Exp>),
+    StaticCall(ClassName, Units, Boxed<Items<Exp>>),
     /// A call of a method above: of an interface, where one is named, or of the superclass (JLS 15.12.1).
-    SuperCall(Option<ClassName>, Units, Items<Exp>),
-    New(ClassName, Items<Exp>),
+    SuperCall(Option<ClassName>, Units, Boxed<Items<Exp>>),
+    New(ClassName, Boxed<Items<Exp>>),
     /// A new array: the type of its innermost elements, its sizes, and how many dimensions have none (JLS 15.10).
-    NewArray(JType, Items<Exp>, u32),
+    NewArray(JType, Boxed<Items<Exp>>, u32),
     Cast(JType, Boxed<Exp>),
     InstanceOf(Boxed<Exp>, JType),
     /// A minus sign before its operand.

@@ -5,6 +5,7 @@
 
 mod expression;
 mod flags;
+mod lists;
 mod method_names;
 mod operator;
 mod shape;
@@ -17,6 +18,7 @@ pub use expression::Exp;
 pub use flags::{
     class_bits, field_bits, held_class, held_field, held_method, is_interface, method_bits,
 };
+pub use lists::{boxed_list, fitted};
 pub use method_names::{is_constructor, is_initialiser};
 pub use operator::Op;
 pub use shape::Shape;

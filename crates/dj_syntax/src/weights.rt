@@ -116,13 +116,16 @@ fn weight_exp(exp: &Exp) -> u64
         Exp::Call(object, _, arguments) => {
             more(
                 1,
-                more(weight_exp(object.get()), weight_exps(arguments.as_slice())),
+                more(
+                    weight_exp(object.get()),
+                    weight_exps(arguments.get().as_slice()),
+                ),
             )
         }
         Exp::StaticCall(_, _, list)
         | Exp::SuperCall(_, _, list)
         | Exp::New(_, list)
-        | Exp::NewArray(_, list, _) => more(1, weight_exps(list.as_slice())),
+        | Exp::NewArray(_, list, _) => more(1, weight_exps(list.get().as_slice())),
         Exp::Choice(test, first, second) => {
             let rest = more(weight_exp(first.get()), weight_exp(second.get()));
             more(1, more(weight_exp(test.get()), rest))

@@ -43,24 +43,24 @@ pub fn is_well_formed_exp(exp: &Exp) -> bool
         Exp::Call(object, name, list) => {
             is_well_formed_exp(object.get())
                 && is_identifier(name)
-                && are_well_formed_exps(list.as_slice())
+                && are_well_formed_exps(list.get().as_slice())
         }
         Exp::StaticCall(class, name, list) => {
             is_sayable(class.as_slice())
                 && is_identifier(name)
-                && are_well_formed_exps(list.as_slice())
+                && are_well_formed_exps(list.get().as_slice())
         }
         Exp::SuperCall(above, name, list) => {
-            is_above(above) && is_identifier(name) && are_well_formed_exps(list.as_slice())
+            is_above(above) && is_identifier(name) && are_well_formed_exps(list.get().as_slice())
         }
         Exp::New(class, list) => {
-            is_qualified(class.as_slice()) && are_well_formed_exps(list.as_slice())
+            is_qualified(class.as_slice()) && are_well_formed_exps(list.get().as_slice())
         }
         Exp::NewArray(kind, sizes, more) => {
             is_named(kind)
                 && !is_array(kind)
-                && !has_no_exp(sizes.as_slice())
-                && are_well_formed_exps(sizes.as_slice())
+                && !has_no_exp(sizes.get().as_slice())
+                && are_well_formed_exps(sizes.get().as_slice())
                 && is_number(*more)
         }
         Exp::Cast(kind, operand) => is_named(kind) && is_well_formed_exp(operand.get()),

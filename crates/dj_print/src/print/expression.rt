@@ -46,24 +46,24 @@ pub fn expression<O: Out>(out: &mut O, value: &Exp, unit: &Unit)
         Exp::Call(object, name, list) => {
             receiver(out, object.get(), unit);
             member(out, name);
-            arguments(out, list.as_slice(), unit);
+            arguments(out, list.get().as_slice(), unit);
         }
         Exp::StaticCall(class, name, list) => {
             member_of_class(out, class, name, unit);
-            arguments(out, list.as_slice(), unit);
+            arguments(out, list.get().as_slice(), unit);
         }
         Exp::SuperCall(interface, name, list) => {
             above(out, interface, unit);
             member(out, name);
-            arguments(out, list.as_slice(), unit);
+            arguments(out, list.get().as_slice(), unit);
         }
         Exp::New(class, list) => {
             new_class(out, class, unit);
-            arguments(out, list.as_slice(), unit);
+            arguments(out, list.get().as_slice(), unit);
         }
         Exp::NewArray(kind, list, more) => {
             new_type(out, kind, unit);
-            sizes(out, list.as_slice(), unit);
+            sizes(out, list.get().as_slice(), unit);
             pairs(out, *more);
         }
         Exp::Cast(kind, cast) => {

@@ -31,18 +31,18 @@ impl Exp {
             }
             Exp::Call(object, name, arguments) => {
                 let object = copy_boxed(alloc, object.get())?;
-                let arguments = copy_exps(alloc, arguments.as_slice())?;
+                let arguments = copy_arguments(alloc, arguments.get().as_slice())?;
                 Ok(Exp::Call(object, name.copy(alloc)?, arguments))
             }
             Exp::StaticCall(class, name, arguments) => {
-                copy_static_call(alloc, class, name, arguments.as_slice())
+                copy_static_call(alloc, class, name, arguments.get().as_slice())
             }
             Exp::SuperCall(above, name, arguments) => {
-                copy_super_call(alloc, above, name, arguments.as_slice())
+                copy_super_call(alloc, above, name, arguments.get().as_slice())
             }
-            Exp::New(class, arguments) => copy_new(alloc, class, arguments.as_slice()),
+            Exp::New(class, arguments) => copy_new(alloc, class, arguments.get().as_slice()),
             Exp::NewArray(kind, sizes, more) => {
-                copy_new_array(alloc, sizes.as_slice(), kind, *more)
+                copy_new_array(alloc, sizes.get().as_slice(), kind, *more)
             }
             Exp::Cast(kind, operand) => copy_cast(alloc, operand.get(), kind),
             Exp::InstanceOf(operand, kind) => copy_instance_of(alloc, operand.get(), kind),
@@ -125,6 +125,14 @@ pub fn copy_boxed(alloc: Global, exp: &Exp) -> Result<Boxed<Exp>, AllocError>
     Ok(Boxed::new(alloc, exp.copy(alloc)?)?)
 }
 
+/// Equal expressions, in order, in a box.
+#[cycle(copy)]
+fn copy_arguments(alloc: Global, list: &[Exp]) -> Result<Boxed<Items<Exp>>, AllocError>
+    ensures equal { IfOk result (λ copy. copy ≡ list.now) }
+{
+    Ok(Boxed::new(alloc, copy_exps(alloc, list)?)?)
+}
+
 #[cycle(copy)]
 fn copy_field(alloc: Global, object: &Exp, name: &Units) -> Result<Exp, AllocError>
     ensures equal { IfOk result (λ copy. copy ≡ exp.Field object.now name.now) }
@@ -142,7 +150,7 @@ fn copy_static_call(
 ) -> Result<Exp, AllocError>
     ensures equal { IfOk result (λ copy. copy ≡ exp.StaticCall class.now name.now arguments.now) }
 {
-    let arguments = copy_exps(alloc, arguments)?;
+    let arguments = copy_arguments(alloc, arguments)?;
     let class = class.copy(alloc)?;
     Ok(Exp::StaticCall(class, name.copy(alloc)?, arguments))
 }
@@ -156,7 +164,7 @@ fn copy_super_call(
 ) -> Result<Exp, AllocError>
     ensures equal { IfOk result (λ copy. copy ≡ exp.SuperCall above.now name.now arguments.now) }
 {
-    let arguments = copy_exps(alloc, arguments)?;
+    let arguments = copy_arguments(alloc, arguments)?;
     let above = copy_name(alloc, above)?;
     Ok(Exp::SuperCall(above, name.copy(alloc)?, arguments))
 }
@@ -165,7 +173,7 @@ fn copy_super_call(
 fn copy_new(alloc: Global, class: &ClassName, arguments: &[Exp]) -> Result<Exp, AllocError>
     ensures equal { IfOk result (λ copy. copy ≡ exp.New class.now arguments.now) }
 {
-    let arguments = copy_exps(alloc, arguments)?;
+    let arguments = copy_arguments(alloc, arguments)?;
     Ok(Exp::New(class.copy(alloc)?, arguments))
 }
 
@@ -173,7 +181,7 @@ fn copy_new(alloc: Global, class: &ClassName, arguments: &[Exp]) -> Result<Exp, 
 fn copy_new_array(alloc: Global, sizes: &[Exp], kind: &JType, more: u32) -> Result<Exp, AllocError>
     ensures equal { IfOk result (λ copy. copy ≡ exp.NewArray kind.now sizes.now more) }
 {
-    let sizes = copy_exps(alloc, sizes)?;
+    let sizes = copy_arguments(alloc, sizes)?;
     Ok(Exp::NewArray(kind.copy(alloc)?, sizes, more))
 }
 

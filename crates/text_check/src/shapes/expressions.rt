@@ -34,27 +34,27 @@ pub fn put_exp(out: &mut Out, exp: &Exp) {
         Exp::Call(object, name, arguments) => {
             open_call(out);
             put_member(out, object.get(), name);
-            put_arguments(out, arguments.as_slice());
+            put_arguments(out, arguments.get().as_slice());
         }
         Exp::StaticCall(class, name, arguments) => {
             open_call(out);
             put_static(out, class, name);
-            put_arguments(out, arguments.as_slice());
+            put_arguments(out, arguments.get().as_slice());
         }
         Exp::SuperCall(above, name, arguments) => {
             open_call(out);
             put_above(out, above, name);
-            put_arguments(out, arguments.as_slice());
+            put_arguments(out, arguments.get().as_slice());
         }
         Exp::New(class, arguments) => {
             out.node("new");
             put_class(out, class);
-            put_arguments(out, arguments.as_slice());
+            put_arguments(out, arguments.get().as_slice());
         }
         Exp::NewArray(kind, sizes, more) => {
             out.node("newarray");
             put_array_of(out, kind, *more);
-            put_arguments(out, sizes.as_slice());
+            put_arguments(out, sizes.get().as_slice());
         }
         Exp::Cast(kind, operand) => {
             out.node("cast");

@@ -5,7 +5,7 @@ use crate::make::names::{
 };
 use crate::random::Random;
 use dj_names::{Boxed, ClassName, Items, Units};
-use dj_syntax::{Exp, Op, Shape};
+use dj_syntax::{Exp, Op, Shape, boxed_list};
 use std::alloc::{AllocError, Global};
 
 pub const INTS: &[i32] = &[0, 1, 5, -1, -5, 127, -32_768, 2_147_483_647, -2_147_483_648];
@@ -72,7 +72,7 @@ fn compound(alloc: Global, random: &mut Random, depth: usize) -> Result<Exp, All
             Ok(Exp::Element(array, boxed(alloc, random, depth)?))
         }
         4 => {
-            let sizes = any_exps(alloc, random, depth, 1)?;
+            let sizes = boxed_list(alloc, any_exps(alloc, random, depth, 1)?)?;
             new_array(alloc, random, sizes)
         }
         5 | 6 => binary(alloc, random, depth),
@@ -104,7 +104,7 @@ fn choice(alloc: Global, random: &mut Random, depth: usize) -> Result<Exp, Alloc
 /// A call or a new object, whose parts are nested to so many levels.
 #[cycle(expression)]
 pub fn any_call(alloc: Global, random: &mut Random, depth: usize) -> Result<Exp, AllocError> {
-    let arguments = any_exps(alloc, random, depth, 0)?;
+    let arguments = boxed_list(alloc, any_exps(alloc, random, depth, 0)?)?;
     match random.below(4) {
         0 => {
             let object = receiver(alloc, random, depth)?;
@@ -163,7 +163,11 @@ fn no_numeral(exp: Exp) -> Exp {
 }
 
 /// A new array with these sizes.
-fn new_array(alloc: Global, random: &mut Random, sizes: Items<Exp>) -> Result<Exp, AllocError> {
+fn new_array(
+    alloc: Global,
+    random: &mut Random,
+    sizes: Boxed<Items<Exp>>,
+) -> Result<Exp, AllocError> {
     let kind = element_type(alloc, random)?;
     Ok(Exp::NewArray(kind, sizes, random.pick(&[0, 0, 1, 3])))
 }

@@ -22,23 +22,23 @@ expression-returns-in-Element g t c =
 
 pub expression-returns-in-Call : goal.expression-returns-in-Call
 expression-returns-in-Call g t c =
-    record { prints = three g.O.Out.prints g.met.O.Out.then c.receiver.ensures.prints c.member.ensures.prints c.arguments.ensures.prints (let v = view_call c.in-Call.object c.in-Call.name c.in-Call.list in rw (c.in-Call.is, v, c.get-in-Call.ensures, c.as_slice-in-Call.ensures) (call_text (spellings c.args.unit.now) (view_exp c.in-Call.object) c.in-Call.name (view_exps c.in-Call.list))) }
+    record { prints = three g.O.Out.prints g.met.O.Out.then c.receiver.ensures.prints c.member.ensures.prints c.arguments.ensures.prints (let v = view_call c.in-Call.object c.in-Call.name c.in-Call.list in rw (c.in-Call.is, v, c.get-in-Call.ensures, c.as_slice-in-Call.ensures, c.get-in-Call-2.ensures) (call_text (spellings c.args.unit.now) (view_exp c.in-Call.object) c.in-Call.name (view_exps c.in-Call.list))) }
 
 pub expression-returns-in-StaticCall : goal.expression-returns-in-StaticCall
 expression-returns-in-StaticCall g t c =
-    record { prints = two g.O.Out.prints g.met.O.Out.then c.member_of_class-in-StaticCall.ensures.prints c.arguments-in-StaticCall.ensures.prints (let v = view_static_call c.in-StaticCall.class c.in-StaticCall.name c.in-StaticCall.list in rw (c.in-StaticCall.is, v, c.as_slice-in-StaticCall.ensures) (static_call_text (spellings c.args.unit.now) c.in-StaticCall.class c.in-StaticCall.name (view_exps c.in-StaticCall.list))) }
+    record { prints = two g.O.Out.prints g.met.O.Out.then c.member_of_class-in-StaticCall.ensures.prints c.arguments-in-StaticCall.ensures.prints (let v = view_static_call c.in-StaticCall.class c.in-StaticCall.name c.in-StaticCall.list in rw (c.in-StaticCall.is, v, c.as_slice-in-StaticCall.ensures, c.get-in-StaticCall.ensures) (static_call_text (spellings c.args.unit.now) c.in-StaticCall.class c.in-StaticCall.name (view_exps c.in-StaticCall.list))) }
 
 pub expression-returns-in-SuperCall : goal.expression-returns-in-SuperCall
 expression-returns-in-SuperCall g t c =
-    record { prints = three g.O.Out.prints g.met.O.Out.then c.above.ensures.prints c.member-in-SuperCall.ensures.prints c.arguments-in-SuperCall.ensures.prints (let v = view_super_call c.in-SuperCall.interface c.in-SuperCall.name c.in-SuperCall.list in rw (c.in-SuperCall.is, v, c.as_slice-in-SuperCall.ensures) (super_call_text (spellings c.args.unit.now) c.in-SuperCall.interface c.in-SuperCall.name (view_exps c.in-SuperCall.list))) }
+    record { prints = three g.O.Out.prints g.met.O.Out.then c.above.ensures.prints c.member-in-SuperCall.ensures.prints c.arguments-in-SuperCall.ensures.prints (let v = view_super_call c.in-SuperCall.interface c.in-SuperCall.name c.in-SuperCall.list in rw (c.in-SuperCall.is, v, c.as_slice-in-SuperCall.ensures, c.get-in-SuperCall.ensures) (super_call_text (spellings c.args.unit.now) c.in-SuperCall.interface c.in-SuperCall.name (view_exps c.in-SuperCall.list))) }
 
 pub expression-returns-in-New : goal.expression-returns-in-New
 expression-returns-in-New g t c =
-    record { prints = two g.O.Out.prints g.met.O.Out.then c.new_class.ensures.prints c.arguments-in-New.ensures.prints (let v = view_new c.in-New.class c.in-New.list in rw (c.in-New.is, v, c.as_slice-in-New.ensures) (new_text (spellings c.args.unit.now) c.in-New.class (view_exps c.in-New.list))) }
+    record { prints = two g.O.Out.prints g.met.O.Out.then c.new_class.ensures.prints c.arguments-in-New.ensures.prints (let v = view_new c.in-New.class c.in-New.list in rw (c.in-New.is, v, c.as_slice-in-New.ensures, c.get-in-New.ensures) (new_text (spellings c.args.unit.now) c.in-New.class (view_exps c.in-New.list))) }
 
 pub expression-returns-in-NewArray : goal.expression-returns-in-NewArray
 expression-returns-in-NewArray g t c =
-    record { prints = three g.O.Out.prints g.met.O.Out.then c.new_type.ensures.prints c.sizes.ensures.prints c.pairs.ensures.prints (let v = view_new_array c.in-NewArray.kind c.in-NewArray.list c.in-NewArray.more in rw (c.in-NewArray.is, v, c.as_slice-in-NewArray.ensures) (new_array_text (spellings c.args.unit.now) (view_type c.in-NewArray.kind) (view_exps c.in-NewArray.list) c.in-NewArray.more)) }
+    record { prints = three g.O.Out.prints g.met.O.Out.then c.new_type.ensures.prints c.sizes.ensures.prints c.pairs.ensures.prints (let v = view_new_array c.in-NewArray.kind c.in-NewArray.list c.in-NewArray.more in rw (c.in-NewArray.is, v, c.as_slice-in-NewArray.ensures, c.get-in-NewArray.ensures) (new_array_text (spellings c.args.unit.now) (view_type c.in-NewArray.kind) (view_exps c.in-NewArray.list) c.in-NewArray.more)) }
 
 pub expression-returns-in-Cast : goal.expression-returns-in-Cast
 expression-returns-in-Cast g t c =

@@ -1,5 +1,5 @@
 use Rattle.dj_expressions.proofs.MadeLemmas.{called-above, called-class, called-creation, called-object}
-use Rattle.dj_expressions.proofs.frames.called.Goals as goal
+use Rattle.dj_expressions.proofs.frames.called_with_all.Goals as goal
 
 pub returns-in_ok-object-in-OfObject : goal.returns-in_ok-object-in-OfObject
 returns-in_ok-object-in-OfObject c = record {
