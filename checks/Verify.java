@@ -11,7 +11,7 @@ import java.util.Map;
 
 /**
  * Answers each line with what the JVM's verifier says of a class file in hexadecimal, `ok` or the error, where a class loader of its
- * own finds the other classes in the folder that the last line `folder PATH` named. To `header NAME` the answer is the superclass and
+ * own finds the other classes in the folder that the last line `folder PATH` named, and those of lines `also NAME HEX` since. To `header NAME` the answer is the superclass and
  * the interfaces of a class of the JDK, `interface` in front where it is one, or `none`.
  */
 public final class Verify extends ClassLoader {
@@ -80,13 +80,17 @@ public final class Verify extends ClassLoader {
             return "ok";
         } catch (LinkageError | SecurityException fault) {
             String words = String.valueOf(fault.getMessage()).replaceAll("\\s+", " ").replaceAll("[^ -~]", "?");
-            return fault.getClass().getSimpleName() + " " + words.replaceFirst(" Current Frame: .*", "").replaceFirst(" Bytecode: .*", "");
+            return fault.getClass().getSimpleName() + " " + words.replaceFirst(" Current Frame: bci: (@[0-9]+) .*", " frame of $1").replaceFirst(" Bytecode: .*", "");
         }
     }
 
     private static String answer(String line) throws IOException {
         if (line.startsWith("folder ")) {
             return openFolder(line.substring(7));
+        }
+        if (line.startsWith("also ")) {
+            FILES.put(line.split(" ")[1], HexFormat.of().parseHex(line.split(" ")[2]));
+            return "added";
         }
         return line.startsWith("header ") ? header(line.substring(7)) : verified(HexFormat.of().parseHex(line));
     }

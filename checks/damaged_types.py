@@ -124,15 +124,15 @@ class Damage:
             self.local = max(0, self.local + self.rng.choice([-2, -1, -1, -1, 1]))
 
     def method(self):
-        """A static method that isn't, or the other way round, or another name or descriptor."""
-        kind = self.rng.randrange(3)
-        descriptors = [index for index in self.named([UTF8]) if is_method(text(self.lone.pool, index))]
+        """A static method that isn't, or the other way round, or another name or descriptor, such as a class file may have."""
+        kind, (_, static, name, descriptor) = self.rng.randrange(3), self.lone.method
+        descriptors = [index for index in self.named([UTF8]) if is_method(text(self.lone.pool, index)) and (name[0] != "<" or text(self.lone.pool, index)[-1] == "V")]
         names = [index for index in self.named([UTF8]) if text(self.lone.pool, index) == "<init>"]
-        if kind == 0:
+        if kind == 0 and name[0] != "<":
             self.head[-9] ^= 8
-        elif kind == 1:
+        elif kind == 1 and name != "<clinit>":
             self.head[-6:-4] = self.rng.choice(descriptors).to_bytes(2, "big")
-        elif names:
+        elif kind == 2 and names and not static and descriptor[-1] == "V":
             self.head[-8:-6] = names[0].to_bytes(2, "big")
 
     # ---- entries of exceptions
@@ -175,6 +175,8 @@ class Damage:
             del tags[at]
         elif way == 1 and len(tags) < 3:
             tags.insert(at, self.some_tag())
+        elif way == 2 and tags[at][0] in (3, 4) and any(frame[0] == FULL and frame[4] is tags for frame in self.frames):
+            tags[at:at + 1] = [[0, 0], [0, 0]]  # a long or a double on the stack as two Tops
         else:
             tags[at] = self.some_tag()
         self.mend()

@@ -1,12 +1,15 @@
 """Compares verify_check with the JVM's verifier: on whole packages, on damaged methods, and on random ones.
 
-usage: python3 checks/verify.py PROGRAM [COUNT [SEED]], with the built verify_check as PROGRAM.
+usage: python3 checks/verify.py PROGRAM [COUNT [SEED [cases]]], with the built verify_check as PROGRAM; `cases` leaves out
+the whole packages, so that a long run can be taken in parts, by seeds.
 Each method of the packages of `code.py` and of classes that javac makes has to be verified, in the world of its package
 with the core classes alone, and with the headers of the JDK's classes too. COUNT methods (50,000), half of them of
 those classes with one thing damaged (`damaged_types.py`, and bytes), half of them random (`random_methods.py`) or such a
-one damaged, have to be accepted or refused as by the JVM (`Verify.java`), or a rule named here must explain it. A
-difference without a rule is printed, and the exit status is 1. Where both refuse, the place that each tells is compared,
-which decides nothing.
+one damaged, have to be accepted or refused as by the JVM (`Verify.java`), or what they differ in has a name
+(`verify_rules.py`): it stands at the instruction or frame that the difference is told at, and with that alone set right
+both are asked again, until they agree. Each such name has a method made by hand that has to get it
+(`verify_differences.py`). Where both refuse, the places that they tell have to be the same, or differ as
+`compares_place` says. What has no name is printed, and the exit status is 1.
 
 PROGRAM reads lines: a class file in hexadecimal is added to its world, `fill` adds the core classes that are missing, and
 each is answered by a line; `verify` and a class file is answered by a line for each method with code, and `end`:
@@ -16,19 +19,21 @@ each is answered by a line; `verify` and a class file is answered by a line for 
     CLASS.METHODDESCRIPTOR unverified RULE PC   its first violation
     CLASS.METHODDESCRIPTOR bad KIND PC          the first fault of its Code
 """
-import collections, pathlib, re, struct, subprocess, sys, tempfile
+import collections, pathlib, struct, subprocess, sys, tempfile
 import java_sources
-from asking import ask, ask_each, end, given, rule_for
+from asking import ask, ask_each, end, given
 from class_file_format import CLASS, EACH, UTF8, Fault, class_text, lay_out, text
 from code import PACKAGES, package_files
-from code_format import answer, lay_out_code
 from damaged_codes import damage, damage_bytes, lone_methods
 from damaged_types import Damage
 from random_methods import Pool, RandomMethod, other_files
+from verify_differences import methods
+from verify_rules import INFERRED, OTHER_PLACE, Case, compares_place, difference
 
 FOLDER = pathlib.Path(__file__).parent
 JAVA = ["java", "-Xverify:all", "-Xshare:auto", "-XX:+UseSerialGC", "-Xmx1g"]
-SOURCES, LONES, BATCH = 160, 2_500, 5_000
+SOURCES, LONES, BATCH, STEPS = 160, 2_500, 5_000, 6
+UNASKED = " (nothing sets it right, so the code isn't compared)"
 UNMADE = (struct.error, OverflowError, ValueError, IndexError, Fault)  # a damage that leaves no bytes
 
 
@@ -54,6 +59,11 @@ def header_file(name, words):
     body = struct.pack(">HHH", 0x601 if kind == "interface" else 0x21, pool.type(name), 0 if upper == "-" else pool.type(upper))
     body += struct.pack(">H", len(faces)) + b"".join(struct.pack(">H", pool.type(face)) for face in faces) + bytes(6)
     return b"\xca\xfe\xba\xbe\x00\x00\x00\x34" + struct.pack(">H", pool.size) + b"".join(pool.entries) + body
+
+
+def plain_file(name):
+    """A class below Object with nothing in it."""
+    return header_file(name, ["class", "java/lang/Object"])
 
 
 def jdk_headers(java, names):
@@ -83,9 +93,10 @@ class World:
         pool, _, this, *_ = lay_out(data, 45)
         return pool, this[1]
 
-    def told(self, program, files, with_heads=True):
-        """The lines that the program tells of each class file."""
+    def told(self, program, files, with_heads=True, more=()):
+        """The lines that the program tells of each class file, in a world with classes of these names besides."""
         world = [*self.heads.values(), *self.files.values()] if with_heads else list(self.files.values())
+        world += [plain_file(name) for name in sorted(more)]
         lines = ask([program], [data.hex() for data in world] + ["fill"] + [f"verify {data.hex()}" for data in files])
         assert lines[:len(world)] == ["added"] * len(world), collections.Counter(lines[:len(world)])
         parts = [[]]
@@ -94,9 +105,10 @@ class World:
         assert len(parts) == len(files) + 1, (len(parts), len(files))
         return parts[:-1]
 
-    def judged(self, java, files):
-        """What the JVM says of each."""
-        return ask_each(java, [f"folder {self.folder}", *(data.hex() for data in files)])[1:]
+    def judged(self, java, files, more=()):
+        """What the JVM says of each, where it finds classes of these names besides."""
+        found = [f"also {name} {plain_file(name).hex()}" for name in sorted(more)]
+        return ask_each(java, [f"folder {self.folder}", *found, *(data.hex() for data in files)])[1 + len(found):]
 
 
 def made_files(rng, folder, release):
@@ -181,151 +193,70 @@ def lones_of(rng, files):
     return lones
 
 
-# ---- rules by which the JVM and the program may differ
-
-# What the JVM's parser refuses of what is passed over here.
-PARSER = [
-    (r"has illegal signature|<clinit> is not static", "the descriptor and the flags of <init> and <clinit> (JVMS 4.6)"),
-    (r"illegal modifiers|Illegal (field|method|class) modifiers", "flags beyond those that are asked here (JVMS 4.1, 4.5, 4.6)"),
-    (r"Illegal (field|method|class) name|Bad (method|field) name|Bad name", "the spelling of a member's or a class's name (JVMS 4.2.2)"),
-    (r"Duplicate (field|method|interface)", "two members or interfaces alike (JVMS 4.5, 4.6, 4.1)"),
-    (r"LineNumberTable|LocalVariable|code attribute name", "an attribute of a Code that is passed over here (JVMS 4.7.3)"),
-    (r"InnerClasses|inner_class|outer_class|inner_name|EnclosingMethod|SourceFile|Signature|[Bb]ootstrap|Annotation|MethodParameters|argument_index|Wrong size|attribute length|Truncated class file", "an attribute that is passed over here (JVMS 4.7)"),
-    (r"method handle|reference_kind", "what a MethodHandle refers to (JVMS 4.4.8)"),
-    (r"does not support constant tag", "kinds of entry that came with version 51 (JVMS 4.4)"),
-]
-COUNTS = "the bytes behind the index of invokeinterface and invokedynamic aren't looked at"
-BEHIND = "the JVM looks at a handler with the locals behind a constructor's call, the standard with those before"
-LOADED = "a class that no file gives, which the JVM has to load"
-
-
-class Case:
-    """A class file with one method, and what the second reading of `code.py` tells of its Code."""
-
-    def __init__(self, data, ours, theirs):
-        self.data, self.ours, self.theirs, self.lines = data, ours, theirs, answer(data)
-        self.instructions = {int(line.split(" ")[0]): line.split(" ")[1:] for line in self.lines if line[0].isdigit()}
-        self.handlers = [tuple(map(int, line.split(" ")[1:4])) for line in self.lines if line.startswith("handler")]
-        self.frames = {int(line.split(" ")[1]): line.split(" ")[3:] for line in self.lines if line.startswith("frame")}
-
-    def instruction(self, pc):
-        return self.instructions.get(pc, [""])
-
-    def constructor_calls(self):
-        return [pc for pc, words in self.instructions.items() if words[0] == "InvokeSpecial" and words[3] == "<init>"]
-
-    def has_empty_table(self):
-        """The StackMapTable has no bytes."""
-        pool, *_, methods, _ = lay_out(self.data, 50)
-        content = next(content for name, content in methods[0][3][1] if text(pool, name[1]) == "Code")
-        return any(text(pool, name) == "StackMapTable" and not table for name, table in lay_out_code(content)[4])
-
-    def sets_another_field(self, pc):
-        """The instruction sets a field of the class that the class doesn't declare."""
-        pool, _, this, _, _, fields, *_ = lay_out(self.data, 50)
-        declared = [(text(pool, name[1]), text(pool, kind[1])) for _, name, kind, _ in fields]
-        words = self.instruction(pc)
-        return words[0] == "PutField" and words[1] == f"L{class_text(pool, this[1])};" and tuple(words[2:4]) not in declared
-
-
-def place_of(theirs):
-    found = re.search(r" @(\d+):", theirs)
-    return int(found[1]) if found else None
-
-
-def explains_refusal(case, world):
-    """Why the JVM refuses what is verified here, or None."""
-    theirs, pc = case.theirs, place_of(case.theirs)
-    if theirs.startswith("NoClassDefFoundError "):
-        return LOADED if theirs.split(" ")[1].lstrip("[").removeprefix("L").rstrip(";") not in world.known else None
-    if theirs.startswith("ClassFormatError "):
-        return rule_for(PARSER, theirs)
-    if re.search(r"count operand in invokeinterface|operand byte(s)? of invoke(interface|dynamic)|operand bytes of invoke", theirs):
-        return COUNTS if case.instruction(pc)[0] in ("InvokeInterface", "InvokeDynamic") else None
-    if "in putfield" in theirs and "uninitializedThis" in theirs:
-        return "a field that is set on an unborn this has to be one that the class itself declares, by the JVM" if case.sets_another_field(pc) else None
-    if "Bad <init> method call from" in theirs:
-        return "handlers in constructors (JVMS 4.10.1.6, initHandlerIsLegal)" if case.handlers else None
-    if "at exception handler" in theirs:
-        calls = case.constructor_calls()
-        return BEHIND if any(target == pc and start <= call < stop for start, stop, target in case.handlers for call in calls) else None
-    if "Bad access to protected" in theirs:
-        return "access to protected members isn't looked at"
-    if "in an indirect superinterface" in theirs:
-        return "invokespecial of an interface's method: that it is a direct superinterface isn't asked" if case.instruction(pc)[2:3] == ["true"] else None
-    if "Expecting reference to class" in theirs:
-        return "a field of an array class, whose class the JVM wants to be no array" if case.instruction(pc)[1:2] and case.instruction(pc)[1].startswith("[") else None
-    if "overrides final method" in theirs:
-        return "overriding of final methods isn't looked at"
-    return None
-
-
-def explains_acceptance(case, world, java):
-    """Why the JVM accepts what is refused here, or None."""
-    data, words = case.data, case.ours.split(" ")
-    if data[7] == 50 and not world.judged(java, [data[:7] + b"\x33" + data[8:]])[0].startswith("ok"):
-        return "in version 50 the JVM infers frames where those that are given don't fit"
-    if words[1:] == ["bad", "Frame", "0"] and case.has_empty_table():
-        return "a StackMapTable without a byte, not even its count, which the JVM takes for none"
-    if words[1] != "unverified":
-        return None
-    if words[2] in ("Into", "Target", "Handler") and any(frame[frame.index("/"):].count("Top") > 1 for frame in case.frames.values()):
-        return "a long or a double on the stack goes into two Tops, by the JVM"
-    own = [pc for pc, each in case.instructions.items() if each[0] == "New" and any(f"Unborn:{pc}" in frame for at, frame in case.frames.items() if at <= pc)]
-    if words[2] == "Operands" and own:
-        return "the JVM doesn't ask at a `new` whether an object that it made before is still there unborn"
-    return None
-
-
-# ---- places
-
-def compares_place(case):
-    """How the places differ where both refuse."""
-    _, _, rule, pc = case.ours.split(" ")
-    pc, theirs = int(pc), place_of(case.theirs)
-    if theirs is None:
-        return "the JVM tells none"
-    if theirs == pc:
-        return "the same"
-    if rule == "Target" and str(theirs) in re.findall(r"\d+", " ".join(case.instruction(pc))):
-        return "the JVM tells that of the target"
-    if rule == "Handler" and any(target == theirs and start <= pc < stop for start, stop, target in case.handlers):
-        return "the JVM tells that of the handler"
-    if rule == "Past" and "falls through code end" in case.theirs:
-        return "the JVM tells that of the end"
-    if "Catch type" in case.theirs:
-        return "the JVM looks at the classes of handlers first"
-    if re.search(r"Bad <init> method call from|at exception handler|(in|of) invokeinterface|in putfield", case.theirs):
-        return "the JVM refuses something before that is taken here"
-    return "another"
-
-
 class Tally:
     def __init__(self):
         self.answers, self.reasons, self.places, self.wrong = collections.Counter(), collections.Counter(), collections.Counter(), []
 
-    def take(self, java, world, data, lines, theirs):
-        ours = lines[0] if lines else "none verified"
-        accepted, fine = ours.endswith(" verified"), theirs == "ok"
-        self.answers["both accept" if accepted and fine else "both refuse" if not accepted and not fine else "the JVM refuses" if accepted else "the program refuses"] += 1
-        if accepted != fine:
-            case = Case(data, ours, theirs)
-            rule = explains_refusal(case, world) if accepted else explains_acceptance(case, world, java)
-            self.reasons[rule] += 1
-            if rule is None:
-                self.wrong.append((world.name, ours, theirs[:300], data.hex()))
-        elif " unverified " in ours:
-            place = compares_place(Case(data, ours, theirs))
+    def take(self, world, case):
+        """Counts an answer; True where the two differ."""
+        both = "both accept" if case.fine else "the program refuses", "the JVM refuses" if case.accepted else "both refuse"
+        self.answers[both[0] if case.fine else both[1]] += 1
+        if not case.accepted and not case.fine and " unverified " in case.ours:
+            place = compares_place(case)
             self.places[place] += 1
-            if place == "another":
-                print("another place:", ours, "|", theirs[:200])
+            if place == OTHER_PLACE:
+                self.wrong.append((world.name, OTHER_PLACE, case.ours, case.theirs[:300], case.data.hex()))
+        return case.accepted != case.fine
+
+    def explain(self, world, case, names):
+        self.reasons["; ".join(names) if names else None] += 1
+        if not names:
+            self.wrong.append((world.name, case.ours, case.theirs[:300], case.data.hex()))
+
+
+def reasons_of(program, java, world, cases):
+    """The names of what the two differ in on each method, set right one after another until they agree; none where something has no name."""
+    told, todo, lacking = [()] * len(cases), [(n, case, ()) for n, case in enumerate(cases)], set()
+    for _ in range(STEPS):
+        asked = []
+        for n, case, names in todo:
+            found = None if told[n] else difference(case, world)
+            if found and not found.files:
+                told[n] = (*names, found.name + UNASKED)
+            elif found:
+                lacking |= found.lacking
+                asked += [(n, case, (*names, found.name), data) for data in found.files if data != case.data or found.lacking]
+        todo = []
+        if not asked:
+            break
+        files = [data for *_, data in asked]
+        for (n, case, names, data), ours, theirs in zip(asked, world.told(program, files, more=lacking), world.judged(java, files, lacking)):
+            next_case = Case(data, ours, theirs)
+            if next_case.agrees_behind(names[-1]):
+                told[n] = told[n] or names
+            elif next_case.accepted != next_case.fine and next_case.accepted == case.accepted:
+                todo.append((n, next_case, names[:-1] if names[-1] == INFERRED else names))
+    return told
 
 
 def compare_cases(program, java, world, cases, tally):
     for at in range(0, len(cases), BATCH):
         files = cases[at:at + BATCH]
-        for row in zip(files, world.told(program, files), world.judged(java, files)):
-            tally.take(java, world, *row)
+        rows = [Case(*row) for row in zip(files, world.told(program, files), world.judged(java, files))]
+        differing = [case for case in rows if tally.take(world, case)]
+        for case, names in zip(differing, reasons_of(program, java, world, differing)):
+            tally.explain(world, case, names)
+
+
+def compare_differences(program, java, world, wrong):
+    """Whether each method that was made to differ does, for its one reason."""
+    named = methods()
+    files = [data for _, data in named]
+    cases = [Case(*row) for row in zip(files, world.told(program, files), world.judged(java, files))]
+    for case, (name, _), names in zip(cases, named, reasons_of(program, java, world, cases)):
+        if case.accepted == case.fine or names != (name,):
+            wrong.append((name, names, case.ours, case.theirs[:300], case.data.hex()))
+    print(f"{len(named)} methods made to differ")
 
 
 def main(words):
@@ -340,10 +271,13 @@ def main(words):
         sets.append(("release7 as version 50", [data[:7] + b"\x32" + data[8:] for data in sets[-1][1]]))
         for name, files in sets:
             world = World(java, folder, name, files)
-            compare_whole(program, world, tally.wrong)
+            if words[3:] != ["cases"]:
+                compare_whole(program, world, tally.wrong)
             if "version" not in name:
                 compare_cases(program, java, world, some_damaged(rng, lones_of(rng, files), count // 10), tally)
-        compare_cases(program, java, World(java, folder, "random", list(other_files().values())), some_random(rng, count // 2), tally)
+        world = World(java, folder, "random", list(other_files().values()))
+        compare_differences(program, java, world, tally.wrong)
+        compare_cases(program, java, world, some_random(rng, count // 2), tally)
     for counts in (tally.answers, tally.reasons, tally.places):
         for word, number in counts.most_common():
             print(f"{number}: {word}")

@@ -6,3 +6,4 @@ pub mod Lists
 pub mod Constructing
 pub mod Reading
 pub mod Giving
+mod Replacing

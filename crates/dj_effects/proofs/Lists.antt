@@ -1,5 +1,5 @@
 -- Lists of which items are looked at or changed one by one.
-use Rattle.std.proofs.Common.{◌≡◌, ℕ, zero, suc, ◌<◌, ◌≤◌, Bool, true, false, ◌||◌, List, [], ◌∷◌, ◌++◌, length, map, take, drop, get_or, slice_get, Some, None, refl, sym, ap, ◌∙◌, arith}
+use Rattle.std.proofs.Common.{◌≡◌, ℕ, zero, suc, ◌<◌, ◌≤◌, Bool, true, false, ◌||◌, List, [], ◌∷◌, ◌++◌, length, map, drop, get_or, refl, sym, ap, ◌∙◌, arith}
 use Rattle.std.specs.Prelude.{slice_set}
 use Rattle.std.specs.List.{list_any}
 use Rattle.std.proofs.lemmas.List.{map-append}
@@ -8,8 +8,7 @@ use Rattle.dj_frames.specs.Frames.{Tag, view_tag, view_tags}
 use Rattle.dj_tags.specs.Goes.{reversed}
 use Rattle.dj_effects.specs.declared.stack.Entry.{Entry}
 use Rattle.dj_effects.specs.Stacked.{tags_of, stacked}
-use Rattle.dj_effects.specs.Effects.{instead}
-use Rattle.dj_effects.specs.Doing.{passes_at, changed_at}
+use Rattle.dj_effects.specs.Doing.{passes_at}
 use Rattle.dj_effects.proofs.Stacking.{map_reversed}
 
 pub set_map : {A B : Type 0} (f : A → B) (list : List A) (k : ℕ) (x : A) → slice_set (map f list) k (f x) ≡ map f (slice_set list k x)
@@ -18,16 +17,6 @@ set_map f (y ∷ list) zero x = refl
 set_map f (y ∷ list) (suc k) x = ap (λ l. f y ∷ l) (set_map f list k x)
 
 -- ---- tests
-
-pub passes_there : (test : Tag → Bool) (slots : List code.Tag) (k : ℕ) (tag : code.Tag) → Some tag ≡ slice_get slots k → passes_at test k (view_tags slots) ≡ test (view_tag tag)
-passes_there test [] k tag is = absurd (cc)
-passes_there test (first ∷ slots) zero tag is = let same : first ≡ tag = cc in rw same refl
-passes_there test (first ∷ slots) (suc k) tag is = passes_there test slots k tag is
-
-pub passes_none : (test : Tag → Bool) (slots : List code.Tag) (k : ℕ) → None ≡ slice_get slots k → passes_at test k (view_tags slots) ≡ false
-passes_none test [] k is = refl
-passes_none test (first ∷ slots) zero is = absurd (cc)
-passes_none test (first ∷ slots) (suc k) is = passes_none test slots k is
 
 pub entry_passes : (test : Tag → Bool) (top : List Entry) (k : ℕ) (entry : Entry) → k < length top → entry ≡ get_or top k entry → passes_at test k (view_tags (tags_of top)) ≡ test (view_tag entry.tag)
 entry_passes test [] k entry within is = absurd (omega arith)
@@ -78,34 +67,3 @@ pub any_stacked : (test : Tag → Bool) (below : List code.Tag) (pushed : List E
 any_stacked test below pushed =
     let parts : view_tags (stacked below pushed) ≡ reversed (view_tags (tags_of pushed)) ++ reversed (view_tags below) = map-append view_tag (reversed (tags_of pushed)) (reversed below) ∙ rw (map_reversed view_tag (tags_of pushed), map_reversed view_tag below) refl in
     ap (list_any test) parts ∙ any_append test (reversed (view_tags (tags_of pushed))) (reversed (view_tags below)) ∙ rw (any_reversed test (view_tags (tags_of pushed)), any_reversed test (view_tags below)) refl
-
--- ---- changes
-
-pub changed_set : (test : Tag → Bool) (now : Tag) (list : List Tag) (k : ℕ) → passes_at test k list ≡ true → changed_at (instead test now) k list ≡ slice_set list k now
-changed_set test now [] k is = refl
-changed_set test now (x ∷ list) zero is = rw is refl
-changed_set test now (x ∷ list) (suc k) is = ap (λ l. x ∷ l) (changed_set test now list k is)
-
-pub changed_same : (test : Tag → Bool) (now : Tag) (list : List Tag) (k : ℕ) → passes_at test k list ≡ false → changed_at (instead test now) k list ≡ list
-changed_same test now [] k none = refl
-changed_same test now (x ∷ list) zero none = rw none refl
-changed_same test now (x ∷ list) (suc k) none = ap (λ l. x ∷ l) (changed_same test now list k none)
-
-module _ {A : Type 0} (f : A → A) where
-  pub changed_more : (list : List A) (k : ℕ) → changed_at f k (map f (take k list) ++ drop k list) ≡ map f (take (suc k) list) ++ drop (suc k) list
-  changed_more [] zero = refl
-  changed_more [] (suc k) = refl
-  changed_more (x ∷ list) zero = refl
-  changed_more (x ∷ list) (suc k) = ap (λ l. f x ∷ l) (changed_more list k)
-
-  pub changed_many : (list : List A) (k : ℕ) → length (map f (take k list) ++ drop k list) ≡ length list
-  changed_many [] zero = refl
-  changed_many [] (suc k) = refl
-  changed_many (x ∷ list) zero = refl
-  changed_many (x ∷ list) (suc k) = ap suc (changed_many list k)
-
-  pub changed_all : (list : List A) (k : ℕ) → length list ≤ k → map f (take k list) ++ drop k list ≡ map f list
-  changed_all [] zero past = refl
-  changed_all [] (suc k) past = refl
-  changed_all (x ∷ list) zero past = absurd (omega arith)
-  changed_all (x ∷ list) (suc k) past = ap (λ l. f x ∷ l) (changed_all list k (omega arith))

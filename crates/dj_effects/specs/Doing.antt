@@ -94,12 +94,6 @@ passes_at test place [] = false
 passes_at test zero (x ∷ list) = test x
 passes_at test (suc place) (x ∷ list) = passes_at test place list
 
--- a list with a function applied to the item at a place
-abbrev pub changed_at : {A : Type 0} → (A → A) → ℕ → List A → List A
-changed_at f place [] = []
-changed_at f zero (x ∷ list) = f x ∷ list
-changed_at f (suc place) (x ∷ list) = x ∷ changed_at f place list
-
 -- what was done to a frame: whether the operands were there, and then the effect
 pub record Did (Goes : Assignability) (headers : List Header) (code : Code) (pc : ℕ) (work : Work) (old : Working) (done : Bool) (new : Working) : Type 0 where
   pub operands : (done ≡ true) ↔ HasOperands Goes headers code pc work old

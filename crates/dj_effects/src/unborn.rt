@@ -1,10 +1,10 @@
 //! Objects that aren't constructed yet, wherever locals hold them (JVMS 4.10.1.9, substitute).
 
-ghost use Rattle.std.specs.Prelude.{◌≡◌, ◌<◌, length, map, OnOk};
+ghost use Rattle.std.specs.Prelude.{◌≡◌, length, map, get_or, OnOk};
 ghost use Rattle.std.specs.List.{list_any};
-ghost use Rattle.dj_frames.specs.Frames.{view_tag, view_tags};
+ghost use Rattle.dj_frames.specs.Frames.{Top, view_tag, view_tags, IsNext};
 ghost use Rattle.dj_effects.specs.Effects.{instead};
-ghost use Rattle.dj_effects.specs.Doing.{is_unborn, passes_at, changed_at};
+ghost use Rattle.dj_effects.specs.Doing.{is_unborn};
 
 use dj_frames::{Slots, Tag};
 use std::alloc::{AllocError, Global};
@@ -28,7 +28,7 @@ pub fn is_unborn(unborn: Unborn, tag: &Tag) -> bool
 
 /// Whether the tag in a slot is that of the object.
 fn is_unborn_in(slots: &Slots, slot: usize, unborn: Unborn) -> bool
-    ensures unborn { result ≡ passes_at (is_unborn unborn) slot (view_tags slots.now) }
+    ensures unborn { result ≡ is_unborn unborn (get_or (view_tags slots.now) slot Top) }
 {
     match slots.get(slot) {
         Some(tag) => is_unborn(unborn, tag),
@@ -36,33 +36,27 @@ fn is_unborn_in(slots: &Slots, slot: usize, unborn: Unborn) -> bool
     }
 }
 
+/// The first slot from one on that has the object.
+fn next_of(slots: &Slots, start: usize, unborn: Unborn) -> Option<usize>
+    ensures next { IsNext (λ slot. is_unborn unborn (get_or (view_tags slots.now) slot Top)) start (length slots.now) result }
+{
+    let count = slots.len();
+    let mut at = start;
+    while at < count {
+        let slot = slots.next_unborn(at)?;
+        if is_unborn_in(slots, slot, unborn) {
+            return Some(slot);
+        }
+        at = slot + 1;
+    }
+    None
+}
+
 /// Whether a slot has the object.
 pub fn is_kept(slots: &Slots, unborn: Unborn) -> bool
     ensures kept { result ≡ list_any (is_unborn unborn) (view_tags slots.now) }
 {
-    for slot in 0..slots.len() {
-        if is_unborn_in(slots, slot, unborn) {
-            return true;
-        }
-    }
-    false
-}
-
-/// Puts a tag in place of the object in a slot.
-fn replace_at(
-    alloc: Global,
-    slots: &mut Slots,
-    slot: usize,
-    unborn: Unborn,
-    now: &Tag,
-) -> Result<(), AllocError>
-    requires within { slot < length slots.old }
-    ensures ok { OnOk result (view_tags slots.new ≡ changed_at (instead (is_unborn unborn) (view_tag now.now)) slot (view_tags slots.old)) }
-{
-    if is_unborn_in(slots, slot, unborn) {
-        slots.set(alloc, slot, now.copy(alloc)?)?;
-    }
-    Ok(())
+    next_of(slots, 0, unborn).is_some()
 }
 
 /// Puts a tag in place of the object in each slot.
@@ -74,8 +68,16 @@ pub fn replace_all(
 ) -> Result<(), AllocError>
     ensures ok { OnOk result (view_tags slots.new ≡ map (instead (is_unborn unborn) (view_tag now.now)) (view_tags slots.old)) }
 {
-    for slot in 0..slots.len() {
-        replace_at(alloc, slots, slot, unborn, now)?;
+    let count = slots.len();
+    let mut start = 0;
+    while start < count {
+        match next_of(slots, start, unborn) {
+            Some(slot) => {
+                slots.set(alloc, slot, now.copy(alloc)?)?;
+                start = slot + 1;
+            }
+            None => return Ok(()),
+        }
     }
     Ok(())
 }

@@ -1,15 +1,16 @@
 -- Tags by slot: of lists, of two halves, and with others put over them.
-use Rattle.std.proofs.Common.{◌≡◌, ◌≢◌, ◌⊎◌, ℕ, suc, ◌+◌, ◌-◌, ◌^◌, ◌<◌, ◌≤◌, ltb, cond, List, [], ◌∷◌, ◌++◌, length, get_or, take, drop, set, Some, refl, sym, ap, ◌∙◌, inl, inr, arith, length-append}
+use Rattle.std.proofs.Common.{◌≡◌, ◌≢◌, ◌⊎◌, ℕ, suc, ◌+◌, ◌-◌, ◌^◌, ◌<◌, ◌≤◌, ltb, cond, List, [], ◌∷◌, ◌++◌, length, get_or, take, drop, set, replicate, Some, refl, sym, ap, ◌∙◌, inl, inr, arith, length-append}
 use Rattle.std.specs.Prelude.{slice_get}
 use Rattle.std.proofs.Math.Nat.{pow-suc}
 use Rattle.std.proofs.lemmas.Bool.{cases_lt, lt-ltb, le-ltb}
-use Rattle.std.proofs.lemmas.List.{get_or_past, get_or_default, get_or-take, get_or-drop, get_or_append_left, get_or-append_right, get_or-set_same, get_or-set_other, ext_get_or, length-set, take_all}
+use Rattle.std.proofs.lemmas.List.{get_or_past, get_or_default, get_or-take, get_or-drop, get_or_append_left, get_or-append_right, get_or-set_same, get_or-set_other, ext_get_or, length-set, take_all, length-replicate, get_or-replicate}
 use Rattle.std.proofs.lemmas.List.FromFn.{length-map-range_with_len, get_or-map-range_with_len, take-map-range_with_len, map-range_with_len_more}
 use Rattle.std.proofs.lemmas.Option.{slice_get-get_or}
 use Rattle.dj_frames.specs.declared.tag.Tag.{Tag}
 use Rattle.dj_frames.specs.declared.tag.Tag.TheVariants.{Top}
 use Rattle.dj_frames.specs.declared.tree.Tree.{Tree}
-use Rattle.dj_frames.specs.SlotTree.{listed, joined, tag_in, over, first_tags}
+use Rattle.dj_frames.specs.declared.tree.Tree.TheVariants.{All}
+use Rattle.dj_frames.specs.SlotTree.{listed, joined, tag_in, over, cut, first_tags}
 
 -- ---- below and above a place
 
@@ -38,6 +39,53 @@ joined_same half slot lower upper lower' upper' within low up = elim (cases_lt s
   | inl lt ↦ joined_below half slot lower upper lt ∙ low slot lt ∙ sym (joined_below half slot lower' upper' lt)
   | inr le ↦ joined_above half slot lower upper le ∙ up (slot - half) (omega arith) ∙ sym (joined_above half slot lower' upper' le)
 ]
+
+-- ---- Top from a place on
+
+cut_below : (from slot : ℕ) (before : ℕ → Tag) → slot < from → cut from before slot ≡ before slot
+cut_below from slot before lt = rw (lt-ltb slot from lt) refl
+
+pub cut_above : (from slot : ℕ) (before : ℕ → Tag) → from ≤ slot → cut from before slot ≡ Top
+cut_above from slot before le = rw (le-ltb slot from le) refl
+
+-- the tag in a slot asks only for the one before in that slot
+pub cut_same : (from slot : ℕ) (before after : ℕ → Tag) → before slot ≡ after slot → cut from before slot ≡ cut from after slot
+cut_same from slot before after same = ap (λ (tag : Tag). cond (ltb slot from) tag Top) same
+
+-- where there is Top already, nothing changes
+pub cut_clear : (from slot : ℕ) (at : ℕ → Tag) → (from ≤ slot → at slot ≡ Top) → at slot ≡ cut from at slot
+cut_clear from slot at top = elim (cases_lt slot from) [
+  | inl lt ↦ sym (cut_below from slot at lt)
+  | inr le ↦ top le ∙ sym (cut_above from slot at le)
+]
+
+-- the first tags of a list, and Top behind them
+pub listed_cut : (from slot : ℕ) (list made : List Tag) (rest : Tag) → made ≡ first_tags from (over 0 [] (listed list rest)) → listed made Top slot ≡ cut from (listed list rest) slot
+listed_cut from slot list made rest is = elim (cases_lt slot from) [
+  | inl lt ↦
+      ap (λ (l : List Tag). get_or l slot Top) is ∙ get_or-map-range_with_len (over 0 [] (listed list rest)) 0 from slot slot Top lt (omega arith) ∙ over_behind 0 slot [] (listed list rest) (omega arith)
+      ∙ sym (cut_below from slot (listed list rest) lt)
+  | inr le ↦
+      let many : length made ≡ from = ap length is ∙ length-map-range_with_len (over 0 [] (listed list rest)) 0 from in
+      get_or_past made slot Top (omega arith) ∙ sym (cut_above from slot (listed list rest) le)
+]
+
+module _ (half from slot : ℕ) (lower upper : ℕ → Tag) where
+  cut_upper : half ≤ from → joined half lower (cut (from - half) upper) slot ≡ cut from (joined half lower upper) slot
+  cut_upper past = elim (cases_lt slot half) [
+    | inl lt ↦ joined_below half slot lower (cut (from - half) upper) lt ∙ sym (cut_below from slot (joined half lower upper) (omega arith) ∙ joined_below half slot lower upper lt)
+    | inr le ↦ joined_above half slot lower (cut (from - half) upper) le ∙ above le (cases_lt slot from)
+  ]
+    where
+      above : half ≤ slot → (slot < from) ⊎ (from ≤ slot) → cut (from - half) upper (slot - half) ≡ cut from (joined half lower upper) slot
+      above le (inl lt) = cut_below (from - half) (slot - half) upper (omega arith) ∙ sym (cut_below from slot (joined half lower upper) lt ∙ joined_above half slot lower upper le)
+      above le (inr past) = cut_above (from - half) (slot - half) upper (omega arith) ∙ sym (cut_above from slot (joined half lower upper) past)
+
+  cut_lower : from < half → joined half (cut from lower) (λ s. Top) slot ≡ cut from (joined half lower upper) slot
+  cut_lower before = elim (cases_lt slot half) [
+    | inl lt ↦ joined_below half slot (cut from lower) (λ s. Top) lt ∙ cut_same from slot lower (joined half lower upper) (sym (joined_below half slot lower upper lt))
+    | inr le ↦ joined_above half slot (cut from lower) (λ s. Top) le ∙ sym (cut_above from slot (joined half lower upper) (omega arith))
+  ]
 
 -- ---- lists
 
@@ -96,7 +144,7 @@ module _ (half start slot : ℕ) (tags : List Tag) (lower upper : ℕ → Tag) w
 pub length_first : (count : ℕ) (at : ℕ → Tag) → length (first_tags count at) ≡ count
 length_first count at = length-map-range_with_len at 0 count
 
-get_first : (count slot : ℕ) (at : ℕ → Tag) → slot < count → get_or (first_tags count at) slot Top ≡ at slot
+pub get_first : (count slot : ℕ) (at : ℕ → Tag) → slot < count → get_or (first_tags count at) slot Top ≡ at slot
 get_first count slot at lt = get_or-map-range_with_len at 0 count slot slot Top lt (omega arith)
 
 pub slice_get_first : (count slot : ℕ) (at : ℕ → Tag) → slot < count → slice_get (first_tags count at) slot ≡ Some (at slot)
@@ -133,6 +181,23 @@ first_appended count tags before grown after same put =
         let many = length_first count before in
         over_below count s tags grown lt ∙ same s lt ∙ sym (get_or_append_left (first_tags count before) tags Top s (omega arith) ∙ get_first count s before lt)
     there s within (inr le) = over_above count s tags grown le ∙ get_or_default tags (s - count) (grown s) Top (omega arith) ∙ sym (get_or-append_right (first_tags count before) tags count s Top (length_first count before) le)
+
+-- Top in the slots behind the first ones
+pub first_padded : (count more : ℕ) (before grown after : ℕ → Tag) → ((s : ℕ) → s < count → grown s ≡ before s) → ((s : ℕ) → s < count + more → after s ≡ cut count grown s) → first_tags (count + more) after ≡ first_tags count before ++ replicate more Top
+first_padded count more before grown after same clear =
+    let many = length_first count before in
+    let long = length_first (count + more) after in
+    let tops = length-replicate more Top in
+    let both = length-append (first_tags count before) (replicate more Top) in
+    ext_get_or Top (first_tags (count + more) after) (first_tags count before ++ replicate more Top) (omega arith)
+    (λ s lt. get_first (count + more) s after (omega arith) ∙ clear s (omega arith) ∙ there s (omega arith) (cases_lt s count))
+  where
+    there : (s : ℕ) → s < count + more → (s < count) ⊎ (count ≤ s) → cut count grown s ≡ get_or (first_tags count before ++ replicate more Top) s Top
+    there s within (inl lt) =
+        let many = length_first count before in
+        cut_below count s grown lt ∙ same s lt ∙ sym (get_or_append_left (first_tags count before) (replicate more Top) Top s (omega arith) ∙ get_first count s before lt)
+    there s within (inr le) =
+        cut_above count s grown le ∙ sym (get_or-append_right (first_tags count before) (replicate more Top) count s Top (length_first count before) le ∙ get_or-replicate more (s - count) Top Top (omega arith))
 
 -- tags that stand in the slots already
 pub stand_over : (start slot : ℕ) (tags : List Tag) (at : ℕ → Tag) → ((s : ℕ) → s < length tags → at (start + s) ≡ get_or tags s Top) → at slot ≡ over start tags at slot
@@ -222,6 +287,30 @@ module _ (depth half : ℕ) (tree lower upper : Tree) (deep : depth ≢ 0) (half
         (λ s lt. ap (λ (t : Tree). tag_in (depth - 1) t s) same ∙ put s lt ∙ ap (λ (list : List Tag). over start list (tag_in (depth - 1) given) s) first_is ∙ ap (λ (t : Tree). over start (take (half - start) tags) (tag_in (depth - 1) t) s) is)
         (λ s lt. ap (λ (t : Tree). tag_in (depth - 1) t s) same' ∙ put' s lt ∙ ap (λ (list : List Tag). over 0 list (tag_in (depth - 1) given') s) others_are ∙ ap (λ (t : Tree). over 0 (drop (half - start) tags) (tag_in (depth - 1) t) s) is')
         ∙ over_both half start slot tags (tag_in (depth - 1) lower) (tag_in (depth - 1) upper) before ∙ as_before
+
+  module _ (from slot : ℕ) (within : slot < 2 ^ depth) where
+    as_before_cut : cut from (joined half (tag_in (depth - 1) lower) (tag_in (depth - 1) upper)) slot ≡ cut from (tag_in depth tree) slot
+    as_before_cut = cut_same from slot (joined half (tag_in (depth - 1) lower) (tag_in (depth - 1) upper)) (tag_in depth tree) (sym (in_halves slot))
+
+    pub clear_upper : (given after now fork : Tree) → half ≤ from → given ≡ upper → now ≡ after → ((s : ℕ) → s < 2 ^ (depth - 1) → tag_in (depth - 1) after s ≡ cut (from - half) (tag_in (depth - 1) given) s)
+        → ((k s : ℕ) → tag_in (suc k) fork s ≡ joined (2 ^ k) (tag_in k lower) (tag_in k now) s) → tag_in depth fork slot ≡ cut from (tag_in depth tree) slot
+    clear_upper given after now fork past is same clear made =
+        made_of slot lower now fork (tag_in (depth - 1) lower) (cut (from - half) (tag_in (depth - 1) upper)) within made (λ s lt. refl)
+        (λ s lt. ap (λ (t : Tree). tag_in (depth - 1) t s) same ∙ clear s lt ∙ ap (λ (t : Tree). cut (from - half) (tag_in (depth - 1) t) s) is)
+        ∙ cut_upper half from slot (tag_in (depth - 1) lower) (tag_in (depth - 1) upper) past ∙ as_before_cut
+
+    pub clear_lower : (given after now above fork : Tree) → from < half → given ≡ lower → now ≡ after → above ≡ All Top → ((s : ℕ) → s < 2 ^ (depth - 1) → tag_in (depth - 1) after s ≡ cut from (tag_in (depth - 1) given) s)
+        → ((k s : ℕ) → tag_in (suc k) fork s ≡ joined (2 ^ k) (tag_in k now) (tag_in k above) s) → tag_in depth fork slot ≡ cut from (tag_in depth tree) slot
+    clear_lower given after now above fork before is same top clear made =
+        made_of slot now above fork (cut from (tag_in (depth - 1) lower)) (λ s. Top) within made
+        (λ s lt. ap (λ (t : Tree). tag_in (depth - 1) t s) same ∙ clear s lt ∙ ap (λ (t : Tree). cut from (tag_in (depth - 1) t) s) is) (λ s lt. ap (λ (t : Tree). tag_in (depth - 1) t s) top)
+        ∙ cut_lower half from slot (tag_in (depth - 1) lower) (tag_in (depth - 1) upper) before ∙ as_before_cut
+
+-- a tree of depth 0 stays the same from its second slot on
+pub root_clear : (depth from slot : ℕ) (after tree : Tree) → depth ≡ 0 → from ≢ 0 → slot < 2 ^ depth → tag_in depth after slot ≡ tag_in depth tree slot → tag_in depth after slot ≡ cut from (tag_in depth tree) slot
+root_clear depth from slot after tree root some within same =
+    let small : slot < 2 ^ 0 = rw root at within in
+    same ∙ sym (cut_below from slot (tag_in depth tree) (omega arith))
 
 -- a tree of depth 0 has one slot
 pub root_over : (depth start slot : ℕ) (tags : List Tag) (after tree : Tree) → depth ≡ 0 → slot < 2 ^ depth → tag_in 0 after 0 ≡ over start tags (tag_in 0 tree) 0 → tag_in depth after slot ≡ over start tags (tag_in depth tree) slot

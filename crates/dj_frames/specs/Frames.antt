@@ -1,5 +1,5 @@
 -- Frames as plain data, and the frame that a method begins with (JVMS 4.7.4, 4.10.1.2, 4.10.1.6).
-use Rattle.std.specs.Prelude.{ℕ, List, [], ◌∷◌, ◌++◌, map, flat_map, Bool, true, false, ◌==◌, ◌&&◌, not, if◌then◌else◌, bit_and, codes}
+use Rattle.std.specs.Prelude.{◌≡◌, ◌<◌, ◌≤◌, Option, Some, None, ℕ, List, [], ◌∷◌, ◌++◌, map, flat_map, Bool, true, false, ◌==◌, ◌&&◌, not, if◌then◌else◌, bit_and, codes}
 use Rattle.std.specs.List.{list_any}
 use Rattle.std.specs.Str.{bytes_eq}
 use Rattle.dj_names.specs.Headers.{Name}
@@ -77,6 +77,30 @@ is_unborn_this Null = false
 is_unborn_this UnbornThis = true
 is_unborn_this (Object type) = false
 is_unborn_this (Unborn pc) = false
+
+-- whether a value is an object that isn't constructed yet, `this` or another
+abbrev pub is_any_unborn : Tag → Bool
+is_any_unborn Top = false
+is_any_unborn Int = false
+is_any_unborn Float = false
+is_any_unborn Double = false
+is_any_unborn Long = false
+is_any_unborn Null = false
+is_any_unborn UnbornThis = true
+is_any_unborn (Object type) = false
+is_any_unborn (Unborn pc) = true
+
+-- a place from one up to an end is the first that passes
+pub record IsFirst (passes : ℕ → Bool) (start end place : ℕ) : Type 0 where
+  pub behind : start ≤ place
+  pub before : place < end
+  pub here : passes place ≡ true
+  pub first : (other : ℕ) → start ≤ other → other < place → passes other ≡ false
+
+-- the first place from one up to an end that passes, if one does
+abbrev pub IsNext : (ℕ → Bool) → ℕ → ℕ → Option ℕ → Type 0
+IsNext passes start end None = (place : ℕ) → start ≤ place → place < end → passes place ≡ false
+IsNext passes start end (Some place) = IsFirst passes start end place
 
 -- the frame of these values in the locals and on the stack; its flag is set where a local is UnbornThis (JVMS 4.10.1.4)
 abbrev pub frame_of : List Tag → List Tag → Frame

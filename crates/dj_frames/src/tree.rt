@@ -1,7 +1,8 @@
 //! Tags by slot in a binary tree whose leaves are lists; trees that differ in few slots share the most of it.
 
-ghost use Rattle.std.specs.Prelude.{◌≡◌, ◌<◌, ◌^◌, ◌≤◌, ◌+◌, ◌-◌, suc, ℕ, length, IfOk, IfSome};
-ghost use Rattle.dj_frames.specs.SlotTree.{listed, joined, tag_in, over, first_tags};
+ghost use Rattle.std.specs.Prelude.{◌≡◌, ◌<◌, ◌^◌, ◌≤◌, ◌+◌, ◌-◌, suc, ℕ, length, IfOk, IfSome, IsTrue};
+ghost use Rattle.dj_frames.specs.Frames.{view_tag, is_any_unborn, IsNext};
+ghost use Rattle.dj_frames.specs.SlotTree.{listed, joined, tag_in, over, cut, first_tags, unborn_in};
 ghost use Rattle.dj_frames.specs.declared.tag.Tag.TheVariants.{Top};
 
 use crate::tag::Tag;
@@ -248,6 +249,130 @@ pub fn deeper(alloc: Global, tree: &Tree) -> Result<Tree, AllocError>
             let lower = Rc::new(alloc, same)?;
             let upper = Rc::new(alloc, Tree::All(Tag::Top))?;
             Ok(Tree::Fork(lower, upper))
+        }
+    }
+}
+
+/// Whether each slot is known to have Top.
+fn is_all_top(tree: &Tree) -> bool
+    ensures top { (depth slot : ℕ) → IsTrue result → tag_in depth tree.now slot ≡ Top }
+{
+    matches!(tree, Tree::All(Tag::Top))
+}
+
+/// Whether each slot from one on has Top, as far as that is told by few looks.
+pub fn is_clear(tree: &Tree, depth: u32, from: usize) -> bool
+    requires small { depth ≤ 64 }
+    ensures clear { (slot : ℕ) → from ≤ slot → IsTrue result → tag_in depth tree.now slot ≡ Top }
+{
+    match tree {
+        Tree::All(tag) => matches!(tag, Tag::Top),
+        Tree::Leaf(run) => {
+            let run = run.get();
+            run.tags.len() <= from && matches!(run.rest, Tag::Top)
+        }
+        Tree::Fork(lower, upper) => {
+            if depth == 0 {
+                return is_clear(lower, 0, from);
+            }
+            let half = half(depth);
+            if half <= from {
+                is_clear(upper, depth - 1, from - half)
+            } else {
+                is_all_top(upper) && is_clear(lower, depth - 1, from)
+            }
+        }
+    }
+}
+
+/// A leaf of so many first tags of a list, and of Top behind them.
+fn clear_leaf(alloc: Global, list: &[Tag], rest: &Tag, from: usize) -> Result<Tree, AllocError>
+    ensures cut { (depth slot : ℕ) → IfOk result (λ made. tag_in depth made slot ≡ cut from (listed list.now rest.now) slot) }
+{
+    let tags = put_list(alloc, list, rest, 0, &[], from)?;
+    let made = leaf(alloc, tags)?;
+    Ok(made)
+}
+
+/// The tree with Top in each slot from one on.
+pub fn clear(alloc: Global, tree: &Tree, depth: u32, from: usize) -> Result<Tree, AllocError>
+    requires small { depth ≤ 64 }
+    ensures cut { (slot : ℕ) → slot < 2 ^ depth → IfOk result (λ after. tag_in depth after slot ≡ cut from (tag_in depth tree.now) slot) }
+{
+    if from == 0 {
+        return Ok(Tree::All(Tag::Top));
+    }
+    if depth == 0 {
+        let same = share(alloc, tree)?;
+        return Ok(same);
+    }
+    if let Some((list, rest)) = list_of(tree, depth) {
+        let leaf = clear_leaf(alloc, list, rest, from)?;
+        return Ok(leaf);
+    }
+    let half = half(depth);
+    let (lower, upper) = halves(alloc, tree, half)?;
+    if half <= from {
+        let after = clear(alloc, &upper, depth - 1, from - half)?;
+        return Ok(Tree::Fork(lower, Rc::new(alloc, after)?));
+    }
+    let after = clear(alloc, &lower, depth - 1, from)?;
+    let above = Rc::new(alloc, Tree::All(Tag::Top))?;
+    Ok(Tree::Fork(Rc::new(alloc, after)?, above))
+}
+
+/// The first slot of a list, from one up to an end, that has an object that isn't constructed yet.
+fn next_listed(list: &[Tag], rest: &Tag, start: usize, end: usize) -> Option<usize>
+    ensures next { IsNext (λ slot. is_any_unborn (view_tag (listed list.now rest.now slot))) start end result }
+{
+    for slot in start..end.min(list.len()) {
+        if list[slot].is_any_unborn() {
+            return Some(slot);
+        }
+    }
+    let behind = start.max(list.len());
+    if behind < end && rest.is_any_unborn() {
+        Some(behind)
+    } else {
+        None
+    }
+}
+
+/// The first slot of a tree, from one up to an end, that has an object that isn't constructed yet.
+pub fn next_unborn(tree: &Tree, depth: u32, start: usize, end: usize) -> Option<usize>
+    requires small { depth ≤ 64 }
+    ensures next { IsNext (unborn_in depth tree.now) start end result }
+{
+    if end <= start {
+        return None;
+    }
+    match tree {
+        Tree::All(tag) => {
+            if tag.is_any_unborn() {
+                Some(start)
+            } else {
+                None
+            }
+        }
+        Tree::Leaf(run) => {
+            let run = run.get();
+            next_listed(run.tags.as_slice(), &run.rest, start, end)
+        }
+        Tree::Fork(lower, upper) => {
+            if depth == 0 {
+                return next_unborn(lower, 0, start, end);
+            }
+            let half = half(depth);
+            if let Some(slot) = next_unborn(lower, depth - 1, start, end.min(half)) {
+                return Some(slot);
+            }
+            let slot = next_unborn(
+                upper,
+                depth - 1,
+                start.saturating_sub(half),
+                end.saturating_sub(half),
+            )?;
+            Some(half + slot)
         }
     }
 }

@@ -1,7 +1,8 @@
 -- Locals behind which there is Top, and frames that go into them.
-use Rattle.std.proofs.Common.{◌≡◌, ◌↔◌, Bool, ℕ, zero, suc, ◌+◌, ◌-◌, ◌<◌, ◌≤◌, List, [], ◌∷◌, ◌++◌, map, replicate, length, get_or, take, drop, slice_set, refl, sym, ap, ◌∙◌, arith, add-one}
-use Rattle.std.proofs.lemmas.List.{drop-map, drop-replicate, length-map}
+use Rattle.std.proofs.Common.{◌≡◌, ◌↔◌, Bool, ℕ, zero, suc, ◌-◌, List, [], ◌∷◌, ◌++◌, map, replicate, length, refl, sym, ap, ◌∙◌}
+use Rattle.std.proofs.lemmas.List.{length-map}
 use Rattle.dj_frames.specs.declared.tag.Tag as declared
+use Rattle.dj_frames.specs.declared.tag.Tag.TheVariants as code
 use Rattle.dj_frames.specs.declared.frame.Frame as code_frame
 use Rattle.dj_frames.specs.Frames.{Tag, Top, view_tag, view_tags}
 use Rattle.dj_tags.specs.Goes.{Assignability, LocalsGo, Working, FrameGoes, reversed}
@@ -12,34 +13,23 @@ pub map_append : {A B : Type 0} (f : A → B) (xs ys : List A) → map f (xs ++ 
 map_append f [] ys = refl
 map_append f (x ∷ xs) ys = ap (λ zs. f x ∷ zs) (map_append f xs ys)
 
-set_next : {A : Type 0} (d : A) (xs ys : List A) (i : ℕ) → i < length xs → i < length ys → slice_set (take i xs ++ drop i ys) i (get_or xs i d) ≡ take (suc i) xs ++ drop (suc i) ys
-set_next d [] ys i within room = absurd (omega arith)
-set_next d (x ∷ xs) [] i within room = absurd (omega arith)
-set_next d (x ∷ xs) (y ∷ ys) zero within room = refl
-set_next d (x ∷ xs) (y ∷ ys) (suc i) within room = ap (λ zs. x ∷ zs) (set_next d xs ys i (omega arith) (omega arith))
+map_tops : (count : ℕ) → view_tags (replicate count code.Top) ≡ replicate count Top
+map_tops zero = refl
+map_tops (suc count) = ap (λ tags. Top ∷ tags) (map_tops count)
 
-set_over : {A : Type 0} (d : A) (xs ys : List A) (i : ℕ) → i < length xs → i < length ys → slice_set (take i xs ++ drop i ys) i (get_or xs i d) ≡ take (i + 1) xs ++ drop (i + 1) ys
-set_over d xs ys i within room = rw add-one (set_next d xs ys i within room)
-
--- one item more put over those of another list
-pub put_more : {A : Type 0} (xs ys before after : List A) (i : ℕ) (x : A) → before ≡ take i xs ++ drop i ys → x ≡ get_or xs i x → after ≡ slice_set before i x → i < length xs → length xs ≤ length ys → after ≡ take (i + 1) xs ++ drop (i + 1) ys
-put_more xs ys before after i x are is put within fits =
-    put ∙ ap (λ zs. slice_set zs i x) are ∙ ap (λ y. slice_set (take i xs ++ drop i ys) i y) is ∙ set_over x xs ys i within (omega arith)
-
--- what stands behind locals in a list of Tops
-pub tops_behind : (locals tops : List declared.Tag) (max_locals : ℕ) → view_tags tops ≡ replicate max_locals Top → view_tags (locals ++ drop (length locals) tops) ≡ view_tags locals ++ replicate (max_locals - length (view_tags locals)) Top
-tops_behind locals tops max_locals are =
-    map_append view_tag locals (drop (length locals) tops) ∙ ap (λ tags. view_tags locals ++ tags)
-    (sym (drop-map view_tag (length locals) tops) ∙ rw (are, length-map locals view_tag) (drop-replicate (length locals) max_locals Top))
+-- Top put behind locals
+tops_behind : (locals : List declared.Tag) (max_locals : ℕ) → view_tags (locals ++ replicate (max_locals - length locals) code.Top) ≡ view_tags locals ++ replicate (max_locals - length (view_tags locals)) Top
+tops_behind locals max_locals =
+    map_append view_tag locals (replicate (max_locals - length locals) code.Top) ∙ ap (λ tags. view_tags locals ++ tags) (map_tops (max_locals - length locals) ∙ ap (λ (n : ℕ). replicate (max_locals - n) Top) (sym (length-map locals view_tag)))
 
 -- a frame of these parts
 abbrev working : List Tag → List Tag → Bool → Working
 working locals stack unborn_this = record { locals = locals; stack = stack; unborn_this = unborn_this }
 
 -- a frame with Tops behind its locals
-pub padded_is : (frame all : code_frame.Frame) (tops : List declared.Tag) (max_locals : ℕ) → all.locals ≡ frame.locals ++ drop (length frame.locals) tops → all.stack ≡ frame.stack → all.unborn_this ≡ frame.unborn_this → view_tags tops ≡ replicate max_locals Top → working_of all ≡ padded max_locals (working_of frame)
-padded_is frame all tops max_locals locals stack flag are =
-    ap (λ tags. working tags (reversed (view_tags all.stack)) all.unborn_this) (ap view_tags locals ∙ tops_behind frame.locals tops max_locals are)
+pub padded_is : (frame all : code_frame.Frame) (max_locals : ℕ) → all.locals ≡ frame.locals ++ replicate (max_locals - length frame.locals) code.Top → all.stack ≡ frame.stack → all.unborn_this ≡ frame.unborn_this → working_of all ≡ padded max_locals (working_of frame)
+padded_is frame all max_locals locals stack flag =
+    ap (λ tags. working tags (reversed (view_tags all.stack)) all.unborn_this) (ap view_tags locals ∙ tops_behind frame.locals max_locals)
     ∙ ap (λ tags. working (view_tags frame.locals ++ replicate (max_locals - length (view_tags frame.locals)) Top) (reversed (view_tags tags)) all.unborn_this) stack
     ∙ ap (λ unborn. working (view_tags frame.locals ++ replicate (max_locals - length (view_tags frame.locals)) Top) (reversed (view_tags frame.stack)) unborn) flag
 

@@ -1,5 +1,5 @@
 -- What the functions that check a place promise each other.
-use Rattle.std.specs.Prelude.{◌≡◌, ◌↔◌, ℕ, ◌≤◌, List, [], ◌∷◌, length, drop, replicate, slice_get, Bool, Option, Some, None, option_map, IfSome, IsTrue}
+use Rattle.std.specs.Prelude.{◌≡◌, ◌↔◌, ℕ, ◌≤◌, List, [], ◌∷◌, length, drop, slice_get, Bool, Option, Some, None, option_map, IfSome, IsTrue}
 use Rattle.std.specs.Option.{option_and_then}
 use Rattle.std.specs.Ordering.{nat_cmp}
 use Rattle.std.specs.BTreeMap as tree
@@ -7,7 +7,7 @@ use Rattle.std.specs.BTreeMap.{BTreeMap}
 use Rattle.dj_names.specs.declared.header.Header.{Header}
 use Rattle.dj_instructions.specs.Instructions.{Instructions, IsRising, view_instructions}
 use Rattle.dj_frames.specs.declared.frame.Frame as code_frame
-use Rattle.dj_frames.specs.Frames.{Top, Frame, view_frame, view_frames, view_tags}
+use Rattle.dj_frames.specs.Frames.{Frame, view_frame, view_frames}
 use Rattle.dj_code.specs.MethodCode.{Code}
 use Rattle.dj_tags.specs.Goes.{Assignability, Working, top_down}
 use Rattle.dj_effects.specs.Doing.{IsKnown}
@@ -32,7 +32,6 @@ ArePlacesFrom from frames places =
 pub record IsReady (subject : Subject) : Type 0 where
   pub rising : IsRising (view_instructions subject.code.now.instructions)
   pub known : IsKnown subject.known
-  pub tops : view_tags subject.tops ≡ replicate subject.code.now.max_locals Top
   pub places : ArePlacesFrom 0 (view_frames subject.code.now.frames) subject.places
 
 -- ---- a place

@@ -77,7 +77,7 @@ fn place_frame<G: Goes>(
             if !flows_into(goes, &flow, given) {
                 return Ok(Placed::Wrong(Rule::Into));
             }
-            let all = padded_frame(alloc, given, &subject.tops)?;
+            let all = padded_frame(alloc, given, subject.code.max_locals)?;
             Ok(Placed::At(all))
         }
     }

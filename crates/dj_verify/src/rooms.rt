@@ -1,39 +1,20 @@
 //! Whether a frame is within the limits of the code (JVMS 4.10.1.6).
 
-ghost use Rattle.std.specs.Prelude.{◌≡◌, ◌↔◌, ◌≤◌, ◌<◌, length, get_or, IsTrue};
-ghost use Rattle.dj_frames.specs.Frames.{Top, view_tags};
+ghost use Rattle.std.specs.Prelude.{◌↔◌, ◌≤◌, IsTrue};
+ghost use Rattle.dj_frames.specs.Frames.{view_tags};
 ghost use Rattle.dj_code.specs.MethodCode.{view_code};
-ghost use Rattle.dj_tags.specs.Goes.{words, reversed};
+ghost use Rattle.dj_tags.specs.Goes.{reversed};
 ghost use Rattle.dj_verify.specs.Rules.{stack_words, HasRoom};
 ghost use Rattle.dj_verify.specs.Checking.{FlowFits, flow_of, working_of};
 
 use dj_code::Code;
 use dj_frames::{Frame, Slots};
 
-/// The words of the entry at a place.
-fn words_at(stack: &Slots, place: usize) -> usize
-    requires within { place < length stack.now }
-    ensures words { result ≡ words (get_or (view_tags stack.now) place Top) }
-{
-    match stack.get(place) {
-        Some(tag) => tag.words(),
-        None => unreachable!(),
-    }
-}
-
 /// Whether the entries of a stack take no more words than there are.
 fn has_stack_room(stack: &Slots, max_stack: u16) -> bool
     ensures room { IsTrue result ↔ (stack_words (reversed (view_tags stack.now)) ≤ max_stack) }
 {
-    let mut room = usize::from(max_stack);
-    for place in 0..stack.len() {
-        let words = words_at(stack, place);
-        if words > room {
-            return false;
-        }
-        room -= words;
-    }
-    true
+    stack.words() <= usize::from(max_stack)
 }
 
 /// Whether the locals and the stack of a frame are within the limits.

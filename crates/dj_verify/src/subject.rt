@@ -7,10 +7,9 @@ ghost use Rattle.dj_frames.specs.Frames.{view_frame, view_frames};
 ghost use Rattle.dj_verify.specs.Rules.{frame_in};
 ghost use Rattle.dj_verify.specs.Checking.{ArePlacesFrom, IsReady};
 
-use crate::padding::tops;
 use dj_code::Code;
 use dj_effects::Known;
-use dj_frames::{Frame, Slots};
+use dj_frames::Frame;
 use std::alloc::{AllocError, Global};
 use std::collections::BTreeMap;
 
@@ -20,7 +19,6 @@ pub struct Subject<'a> {
     pub code: &'a Code,
     pub known: Known,
     pub places: BTreeMap<u32, usize>,
-    pub tops: Slots,
 }
 
 /// The place of the first frame at each pc.
@@ -44,13 +42,11 @@ impl<'a> Subject<'a> {
         ensures ready { IfOk result IsReady }
     {
         let places = first_places(alloc, code.frames.as_slice())?;
-        let tops = tops(alloc, code.max_locals)?;
         let known = Known::new(alloc)?;
         Ok(Subject {
             code,
             known,
             places,
-            tops,
         })
     }
 

@@ -60,7 +60,7 @@ fn frames_by<G: Goes>(
     ensures table { IfOk result (λ frames. IsFrameTable (G.relation goes.now) (G.known goes.now) (view_code subject.now.code.now) (map view_frame frames)) }
     ensures unverified { IfErr result (IsVerifyFault (G.relation goes.now) (G.known goes.now) (view_code subject.now.code.now)) }
 {
-    let first = entry(alloc, subject.code, &subject.tops)?;
+    let first = entry(alloc, subject.code)?;
     check_all(alloc, goes, subject, first)
 }
 

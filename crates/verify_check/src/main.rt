@@ -17,6 +17,7 @@ use std::alloc::Global;
 use std::io;
 use std::io::{BufRead, BufReader, BufWriter, Write};
 
+/// What type checking finds of a method, where it has code.
 fn put_method<W: Write>(
     alloc: Global,
     headers: &Headers,
@@ -32,6 +33,7 @@ fn put_method<W: Write>(
     Ok(())
 }
 
+/// The same of each method of a class, a line each.
 fn put_class<W: Write>(
     alloc: Global,
     headers: &Headers,
@@ -66,6 +68,7 @@ fn put_answer<W: Write>(alloc: Global, world: &mut World, out: &mut W, line: &st
     Ok(())
 }
 
+/// Answers each line of the input.
 fn main(rt: HostRuntime) -> Result<()> {
     let alloc = rt.alloc();
     let mut out = BufWriter::new(alloc, io::writer(&rt))?;

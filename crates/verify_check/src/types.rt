@@ -14,6 +14,7 @@ impl fmt::Display for TypeText<'_> {
     }
 }
 
+/// A type as it is spelled.
 fn put_type<W: Write>(kind: &JType, f: &mut fmt::Formatter<W>) -> fmt::Result {
     match kind {
         JType::Boolean => f.write_str("Z"),
@@ -48,6 +49,7 @@ impl fmt::Display for DescriptorText<'_> {
     }
 }
 
+/// The types of parameters, in brackets.
 fn put_parameters<W: Write>(parameters: &[JType], f: &mut fmt::Formatter<W>) -> fmt::Result {
     f.write_str("(")?;
     for kind in parameters {
@@ -56,6 +58,7 @@ fn put_parameters<W: Write>(parameters: &[JType], f: &mut fmt::Formatter<W>) -> 
     f.write_str(")")
 }
 
+/// The type that is returned, or V.
 fn put_returned<W: Write>(returned: &Option<JType>, f: &mut fmt::Formatter<W>) -> fmt::Result {
     match returned {
         Some(kind) => put_type(kind, f),

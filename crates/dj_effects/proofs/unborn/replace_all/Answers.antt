@@ -1,28 +1,30 @@
-use Rattle.std.proofs.Common.{◌≤◌, ◌∙◌, ap, length, arith, add-one}
+use Rattle.std.proofs.Common.{◌≡◌, ◌∙◌, length, sym, ap, arith}
+use Rattle.std.specs.Prelude.{slice_set}
 use Rattle.std.proofs.lemmas.List.{length-map}
 use Rattle.dj_frames.specs.Frames.{view_tag, view_tags}
-use Rattle.dj_effects.specs.Effects.{instead}
-use Rattle.dj_effects.specs.Doing.{is_unborn, changed_at}
-use Rattle.dj_effects.proofs.Lists.{changed_more, changed_many, changed_all}
+use Rattle.dj_effects.specs.Doing.{is_unborn}
+use Rattle.dj_effects.proofs.Lists.{set_map}
+use Rattle.dj_effects.proofs.Replacing.{replaced_none, replaced_more, replaced_all}
 use Rattle.dj_effects.proofs.unborn.replace_all.Goals as goal
 
-pub replace_at-requires : goal.replace_at-requires
-replace_at-requires c =
-    let f = instead (is_unborn c.args.unborn) (view_tag c.args.now.now) in
-    let many = ap length c.loop-slot.invariant ∙ changed_many f (view_tags c.args.slots.now) c.loop-slot.slot in
-    let one = length-map c.loop-slot.slots view_tag in
-    let other = length-map c.args.slots.now view_tag in
-    let n = c.len-slot-end.ensures.len in
-    let t = c.loop-slot-test.true in
-    record { within = omega arith }
+pub loop-start-init : goal.loop-start-init
+loop-start-init c = replaced_none (is_unborn c.args.unborn) (view_tag c.args.now.now) (view_tags c.args.slots.now)
 
-pub loop-slot-preserved : goal.loop-slot-preserved
-loop-slot-preserved c =
-    let f = instead (is_unborn c.args.unborn) (view_tag c.args.now.now) in
-    rw add-one (c.in_ok-replace_at.ensures.ok ∙ ap (changed_at f c.loop-slot.slot) c.loop-slot.invariant ∙ changed_more f (view_tags c.args.slots.now) c.loop-slot.slot)
+pub loop-start-preserved : goal.loop-start-preserved
+loop-start-preserved c =
+    let test = is_unborn c.args.unborn in
+    let put : c.set.new.self ≡ slice_set c.loop-start.slots c.in-Some.slot c.args.now.now = rw (← c.in_ok-copy-in-Some.ensures.equal) c.in_ok-set-in-Some.ensures.ok in
+    replaced_more test (view_tag c.args.now.now) (view_tags c.args.slots.now) (view_tags c.loop-start.slots) c.loop-start.start c.loop-start.invariant (view_tags c.set.new.self) (length c.loop-start.slots) c.in-Some.slot (sym (length-map c.loop-start.slots view_tag)) c.in-Some.ensures.next
+    (ap view_tags put ∙ sym (set_map view_tag c.loop-start.slots c.in-Some.slot c.args.now.now))
+
+pub returns-in-None : goal.returns-in-None
+returns-in-None c =
+    record { ok = replaced_all (is_unborn c.args.unborn) (view_tag c.args.now.now) (view_tags c.args.slots.now) (view_tags c.loop-start.slots) c.loop-start.start c.loop-start.invariant (length c.loop-start.slots) (sym (length-map c.loop-start.slots view_tag)) (λ s ge lt. c.in-None.ensures.next s ge lt) }
 
 pub returns : goal.returns
 returns c =
-    let f = instead (is_unborn c.args.unborn) (view_tag c.args.now.now) in
-    let past : length (view_tags c.args.slots.now) ≤ c.loop-slot.slot = let e = length-map c.args.slots.now view_tag in let n = c.len-slot-end.ensures.len in let t = c.loop-slot-test.false in omega arith in
-    record { ok = c.loop-slot.invariant ∙ changed_all f (view_tags c.args.slots.now) c.loop-slot.slot past }
+    let r = c.loop-start.invariant in
+    let long = r.long in
+    let now = length-map c.loop-start.slots view_tag in
+    let before = length-map c.args.slots.now view_tag in
+    record { ok = replaced_all (is_unborn c.args.unborn) (view_tag c.args.now.now) (view_tags c.args.slots.now) (view_tags c.loop-start.slots) c.loop-start.start r (length c.loop-start.slots) (sym now) (λ s ge lt. absurd (omega arith)) }

@@ -19,6 +19,6 @@ returns-in_ok-all-in-Some g c =
     let code = view_code c.args.subject.now.code.now in
     record {
       placed = λ instruction rest.
-          let s = given_stands R K code c.args.pc instruction rest (view_frame c.in-Some.given.now) c.in-Some.ensures.first (flow_of c.args.flow) (working_of c.in_ok-all-in-Some.all) (c.flows_into.ensures.into.0 c.if-not-flows_into.false) (c.in_ok-all-in-Some.ensures.padded c.args.subject.now.code.now.max_locals c.requires.ready.tops) in
+          let s = given_stands R K code c.args.pc instruction rest (view_frame c.in-Some.given.now) c.in-Some.ensures.first (flow_of c.args.flow) (working_of c.in_ok-all-in-Some.all) (c.flows_into.ensures.into.0 c.if-not-flows_into.false) c.in_ok-all-in-Some.ensures.padded in
           (s.frame_is, s.some, s.into);
     }
