@@ -1,0 +1,6 @@
+pub mod GatheringLemmas
+pub mod ClimbLemmas
+pub mod ParentLemmas
+pub mod FieldLemmas
+pub mod SayingLemmas
+pub mod Examples

@@ -1,0 +1,9 @@
+//! Which methods of a class can't stand in one text with its others, by name, parameters and flags (JVMS 4.6; JLS 8.4.2, 8.7, 8.8, 9.4).
+//! It stands on `dj_class` for methods, and on `dj_members` for tables of names.
+//! The layer above uses `table_of`, made once a class, and `breaks_signature` (`breaks`).
+#![tactic(auto)]
+
+mod parameters;
+mod signatures;
+
+pub use signatures::{breaks_signature, table_of};
