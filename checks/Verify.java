@@ -3,15 +3,17 @@ import java.io.IOException;
 import java.io.InputStreamReader;
 import java.io.PrintStream;
 import java.io.UncheckedIOException;
+import java.nio.charset.StandardCharsets;
 import java.nio.file.Files;
 import java.nio.file.Path;
 import java.util.HashMap;
 import java.util.HexFormat;
 import java.util.Map;
+import java.util.regex.Pattern;
 
 /**
  * Answers each line with what the JVM's verifier says of a class file in hexadecimal, `ok` or the error, where a class loader of its
- * own finds the other classes in the folder that the last line `folder PATH` named, and those of lines `also NAME HEX` since. To `header NAME` the answer is the superclass and
+ * own finds the other classes in the folder that the last line `folder PATH` named, and those of lines `also HEX HEX` since, of a name and a file. To `header NAME` the answer is the superclass and
  * the interfaces of a class of the JDK, `interface` in front where it is one, or `none`.
  */
 public final class Verify extends ClassLoader {
@@ -79,7 +81,8 @@ public final class Verify extends ClassLoader {
             link(new Verify().defineClass(null, bytes, 0, bytes.length));
             return "ok";
         } catch (LinkageError | SecurityException fault) {
-            String words = String.valueOf(fault.getMessage()).replaceAll("\\s+", " ").replaceAll("[^ -~]", "?");
+            String message = fault instanceof NoClassDefFoundError ? fault.getMessage() : String.valueOf(fault.getMessage()).replaceAll("\\s+", " ");
+            String words = Pattern.compile("[^ -~]").matcher(message).replaceAll(found -> String.format("\\\\u%04x", (int) found.group().charAt(0)));
             return fault.getClass().getSimpleName() + " " + words.replaceFirst(" Current Frame: bci: (@[0-9]+) .*", " frame of $1").replaceFirst(" Bytecode: .*", "");
         }
     }
@@ -89,7 +92,8 @@ public final class Verify extends ClassLoader {
             return openFolder(line.substring(7));
         }
         if (line.startsWith("also ")) {
-            FILES.put(line.split(" ")[1], HexFormat.of().parseHex(line.split(" ")[2]));
+            String[] parts = line.split(" ");
+            FILES.put(new String(HexFormat.of().parseHex(parts[1]), StandardCharsets.UTF_8), HexFormat.of().parseHex(parts[2]));
             return "added";
         }
         return line.startsWith("header ") ? header(line.substring(7)) : verified(HexFormat.of().parseHex(line));

@@ -61,7 +61,7 @@ class Pool:
         return self.places[data]
 
     def text(self, words):
-        return self.add(b"\x01" + struct.pack(">H", len(words)) + words.encode())
+        return self.add(b"\x01" + struct.pack(">H", len(words.encode())) + words.encode())
 
     def type(self, name):
         return self.add(b"\x07" + struct.pack(">H", self.text(name)))

@@ -28,7 +28,7 @@ from damaged_codes import damage, damage_bytes, lone_methods
 from damaged_types import Damage
 from random_methods import Pool, RandomMethod, other_files
 from verify_differences import methods
-from verify_rules import INFERRED, OTHER_PLACE, Case, compares_place, difference
+from verify_rules import INFERRED, LOADED, OTHER_PLACE, Case, compares_place, difference
 
 FOLDER = pathlib.Path(__file__).parent
 JAVA = ["java", "-Xverify:all", "-Xshare:auto", "-XX:+UseSerialGC", "-Xmx1g"]
@@ -107,7 +107,7 @@ class World:
 
     def judged(self, java, files, more=()):
         """What the JVM says of each, where it finds classes of these names besides."""
-        found = [f"also {name} {plain_file(name).hex()}" for name in sorted(more)]
+        found = [f"also {name.encode().hex()} {plain_file(name).hex()}" for name in sorted(more)]
         return ask_each(java, [f"folder {self.folder}", *found, *(data.hex() for data in files)])[1 + len(found):]
 
 
@@ -145,7 +145,7 @@ def head_of(data):
 
 
 def damaged(rng, lone):
-    """A copy of a class file with one method in which one thing is damaged; the class's header stays."""
+    """A copy of a class file with one method in which one thing is damaged; the version and the class's header stay."""
     kind = rng.random()
     if kind < 0.86:
         return Damage(rng, lone).file()
@@ -154,7 +154,7 @@ def damaged(rng, lone):
     whole = lone.file(lone.content)
     data = bytearray(whole)
     damage_bytes(rng, data)
-    if head_of(data) != head_of(whole):
+    if data[4:8] != whole[4:8] or head_of(data) != head_of(whole):
         raise Fault
     return bytes(data)
 
@@ -199,8 +199,8 @@ class Tally:
 
     def take(self, world, case):
         """Counts an answer; True where the two differ."""
-        both = "both accept" if case.fine else "the program refuses", "the JVM refuses" if case.accepted else "both refuse"
-        self.answers[both[0] if case.fine else both[1]] += 1
+        words = ("both accept", "the JVM refuses") if case.accepted else ("the program refuses", "both refuse")
+        self.answers[words[0] if case.fine else words[1]] += 1
         if not case.accepted and not case.fine and " unverified " in case.ours:
             place = compares_place(case)
             self.places[place] += 1
@@ -234,7 +234,7 @@ def reasons_of(program, java, world, cases):
             next_case = Case(data, ours, theirs)
             if next_case.agrees_behind(names[-1]):
                 told[n] = told[n] or names
-            elif next_case.accepted != next_case.fine and next_case.accepted == case.accepted:
+            elif next_case.accepted != next_case.fine and (next_case.accepted == case.accepted or names[-1] == LOADED):
                 todo.append((n, next_case, names[:-1] if names[-1] == INFERRED else names))
     return told
 

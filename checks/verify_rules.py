@@ -193,7 +193,8 @@ def right_flags(case):
 def another_name(case):
     """A name that each method may have, where it isn't a constructor with an object."""
     opened = case.opened()
-    if case.name() == "<init>" and not opened.flags & 8:
+    member_names = [text(opened.pool, parts[0][1]) for tag, parts in opened.pool.values() if tag == NAME_AND_TYPE]
+    if case.name() == "<init>" and not opened.flags & 8 or case.name() in member_names:
         return []
     opened.name = opened.add_text("m$")
     return [opened.file()]
@@ -327,7 +328,7 @@ def refusal(case, world):
     """What the JVM refuses where all is verified here, or None."""
     theirs = case.theirs
     if theirs.startswith("NoClassDefFoundError "):
-        name = theirs.split(" ")[1].lstrip("[").removeprefix("L").rstrip(";")
+        name = re.sub(r"\\u([0-9a-f]{4})", lambda found: chr(int(found[1], 16)), theirs.split(" ")[1].lstrip("[").removeprefix("L").rstrip(";"))
         return None if name in world.known else Found(LOADED, [] if name.startswith("java/") else [case.data], {name})
     if theirs.startswith("ClassFormatError "):
         return next((Found(rule, mend(case), set()) for pattern, rule, mend in PARSER if re.search(pattern, theirs)), None)
@@ -447,4 +448,8 @@ def compares_place(case):
         return "the JVM looks at the classes of handlers first"
     if (frame_of(case.theirs) if "at exception handler" in case.theirs else theirs) < pc and refused_code(case):
         return "the JVM refuses something before that is taken here"
+    if frame_of(case.theirs) == pc:
+        return "the JVM tells another place of the same instruction"
+    if rule in ("Into", "Target") and theirs > pc and with_wide(case):
+        return "the JVM takes a long into two Tops there, and refuses something behind"
     return OTHER_PLACE

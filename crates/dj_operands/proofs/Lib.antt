@@ -1,0 +1,5 @@
+pub mod StackLemmas
+pub mod Moving
+pub mod Fitting
+pub mod Others
+pub mod Wrapping
