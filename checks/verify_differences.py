@@ -85,6 +85,8 @@ def members():
     yield named("protected members"), made.file(static + call + b"\x57\xb1")
     made = Made(flags=1, this="q/D")
     yield named("direct superinterface"), made.file(b"\x2a" + made.member(0xB7, 11, "q/I", "y", "()V") + b"\xb1")
+    made = Made(version=51)
+    yield named("came with version 52"), made.file(made.member(0xB8, 11, "q/I", "y", "()V") + b"\xb1")
     made = Made(descriptor="([I)V")
     yield named("field of an array"), made.file(b"\x2a" + made.member(0xB4, 9, "[I", "zz", "I") + b"\x57\xb1")
     yield named("final methods"), Made("wait", flags=1).file(b"\xb1")

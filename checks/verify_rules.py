@@ -217,13 +217,16 @@ def nothing(case):
 IN_CODE = "an attribute of a Code that is passed over here (JVMS 4.7.3)"
 # What the JVM's parser refuses of what is passed over here, and how it is set right.
 PARSER = [
+    (r"Bad (method|field) name at constant pool index", "the spelling of a member's name in the pool (JVMS 4.2.2)", nothing),
+    (r"[Bb]ootstrap|argument_index", "BootstrapMethods, which are passed over here (JVMS 4.7.23)", nothing),
+    (r"Field .* has illegal signature", IN_CODE, without_attributes),
     (r"has illegal signature|<clinit> is not static", "the descriptor and the flags of <init> and <clinit> (JVMS 4.6)", another_name),
     (r"illegal modifiers|Illegal (field|method|class) modifiers", "flags beyond those that are asked here (JVMS 4.1, 4.5, 4.6)", right_flags),
     (r"Illegal (method) name|Bad method name", "the spelling of a method's name (JVMS 4.2.2)", another_name),
     (r"Illegal (field|class) name|Bad field name|Bad name", "the spelling of a field's or a class's name (JVMS 4.2.2)", nothing),
     (r"Duplicate (field|method|interface)", "two members or interfaces alike (JVMS 4.5, 4.6, 4.1)", nothing),
     (r"LineNumberTable|LocalVariable|local variable table|code attribute name", IN_CODE, without_attributes),
-    (r"InnerClasses|inner_class|outer_class|inner_name|EnclosingMethod|SourceFile|Signature|[Bb]ootstrap|Annotation|MethodParameters|argument_index|Wrong size|attribute length|Truncated class file", "an attribute that is passed over here (JVMS 4.7)", without_attributes),
+    (r"InnerClasses|inner_class|outer_class|inner_name|EnclosingMethod|SourceFile|Signature|Annotation|MethodParameters|Wrong size|attribute length|Truncated class file", "an attribute that is passed over here (JVMS 4.7)", without_attributes),
     (r"method handle|reference_kind", "what a MethodHandle refers to (JVMS 4.4.8)", nothing),
     (r"does not support constant tag", "kinds of entry that came with version 51 (JVMS 4.4)", version_52),
 ]
@@ -304,6 +307,8 @@ def is_access(words):
 REFUSALS = [
     (r"count operand in invokeinterface|operand byte(s)? of invoke(interface|dynamic)|operand bytes of invoke", lambda case, pc: case.instruction(pc)[0] in ("InvokeInterface", "InvokeDynamic"),
      "the bytes behind the index of invokeinterface and invokedynamic aren't looked at", right_counts),
+    (r"Illegal type at constant pool entry", lambda case, pc: case.data[7] < 52 and case.instruction(pc)[0] in ("InvokeSpecial", "InvokeStatic") and "true" in case.instruction(pc)[1:3],
+     "invokespecial and invokestatic of an interface's method came with version 52 (JVMS 4.9.1)", version_52),
     (r"uninitializedThis.*in putfield|in putfield.*uninitializedThis", lambda case, pc: case.name() == "<init>" and sets_another_field(case, pc),
      "a field that is set on an unborn this has to be one that the class itself declares, by the JVM", declares_field),
     (r"Bad <init> method call from after", lambda case, pc: case.name() == "<init>" and case.constructs(pc) and case.covers(pc),
