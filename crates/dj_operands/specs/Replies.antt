@@ -1,5 +1,5 @@
 -- How the program's replies are seen as those of the definition.
-use Rattle.std.specs.Prelude.{ℕ, codes, ⊤, Bool, not, if◌then◌else◌, List, Option, Some, None, option_map}
+use Rattle.std.specs.Prelude.{ℕ, ⊤, Bool, not, if◌then◌else◌, List, Option, Some, None, option_map}
 use Rattle.dj_values.specs.Values.{Value}
 use Rattle.dj_values.specs.Views.{view_reference, view_value, view_action}
 use Rattle.dj_values.specs.Outcomes.{Throws, Stuck, Reply, Gives, Halts, ask, trap}
@@ -9,21 +9,11 @@ use Rattle.dj_bytecode.specs.Operands.{with_one, with_two, with_reference}
 use Rattle.dj_bytecode.specs.Calculations.{led}
 use Rattle.dj_bytecode.specs.Objects.{is_same_reference}
 use Rattle.dj_bytecode.specs.Meanings.{Family, Strict, Moves, Loads, Stores, Counts, Leads, Returns, NotRun}
-use Rattle.dj_operands.specs.declared.reply.Trap as code_trap
-use Rattle.dj_operands.specs.declared.reply.Trap.TheVariants as traps
+use Rattle.dj_outside.specs.Runs.{trap_class}
 use Rattle.dj_operands.specs.declared.reply.Reply as code_reply
 use Rattle.dj_operands.specs.declared.reply.Reply.TheVariants as replies
 use Rattle.dj_operands.specs.declared.jumps.Jump as code_jump
 use Rattle.dj_operands.specs.declared.jumps.Jump.TheVariants as jumps
-
--- the class of an exception that the machine throws by itself
-abbrev pub trap_class : code_trap.Trap → List ℕ
-trap_class traps.Arithmetic = codes "java/lang/ArithmeticException"
-trap_class traps.Null = codes "java/lang/NullPointerException"
-trap_class traps.Bounds = codes "java/lang/ArrayIndexOutOfBoundsException"
-trap_class traps.Store = codes "java/lang/ArrayStoreException"
-trap_class traps.Cast = codes "java/lang/ClassCastException"
-trap_class traps.Size = codes "java/lang/NegativeArraySizeException"
 
 -- a reply
 abbrev pub view_reply : code_reply.Reply → Reply (Option Value)

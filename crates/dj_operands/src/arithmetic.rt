@@ -11,8 +11,9 @@ ghost use Rattle.dj_instructions.specs.declared.kinds.Calc.TheVariants.{Neg};
 ghost use Rattle.dj_bytecode.specs.Meanings.{calculation, int_calculation, long_calculation};
 ghost use Rattle.dj_operands.specs.Replies.{view_reply, operation_of, IsShift, IsPlain};
 
-use crate::reply::{Reply, Trap, int, long};
+use crate::reply::{Reply, int, long};
 use dj_instructions::{Calc, Kind};
+use dj_outside::Trap;
 use dj_values::Value;
 
 /// How far to shift an int: the low five bits of the distance.

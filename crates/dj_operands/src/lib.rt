@@ -17,6 +17,6 @@ pub use conversions::{compare, convert};
 pub use family::{Family, family_of};
 pub use jumps::{Jump, jump_of};
 pub use operands::{all_fitted, fitted, parameters_of};
-pub use reply::{Reply, Trap, class_name, int, long};
+pub use reply::{Reply, int, long};
 pub use shuffles::shuffle;
 pub use stack::Stack;

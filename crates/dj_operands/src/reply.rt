@@ -3,20 +3,10 @@
 ghost use Rattle.std.specs.Prelude.{◌≡◌, Some};
 ghost use Rattle.dj_values.specs.Values.{Int, Long};
 ghost use Rattle.dj_values.specs.Outcomes.{Gives};
-ghost use Rattle.dj_operands.specs.Replies.{trap_class, view_reply};
+ghost use Rattle.dj_operands.specs.Replies.{view_reply};
 
+use dj_outside::Trap;
 use dj_values::{Action, RefValue, Value};
-
-/// The exceptions that the machine throws by itself (JVMS 2.10).
-#[derive(Clone, Copy)]
-pub enum Trap {
-    Arithmetic,
-    Null,
-    Bounds,
-    Store,
-    Cast,
-    Size,
-}
 
 /// What an instruction asks of the outside, or comes to by itself.
 #[derive(Drop)]
@@ -28,20 +18,6 @@ pub enum Reply {
     Traps(Trap),
     /// An operand is missing or of another kind.
     Stuck,
-}
-
-/// The class of such an exception.
-pub fn class_name(trap: Trap) -> &'static str
-    ensures class { result.now ≡ trap_class trap }
-{
-    match trap {
-        Trap::Arithmetic => "java/lang/ArithmeticException",
-        Trap::Null => "java/lang/NullPointerException",
-        Trap::Bounds => "java/lang/ArrayIndexOutOfBoundsException",
-        Trap::Store => "java/lang/ArrayStoreException",
-        Trap::Cast => "java/lang/ClassCastException",
-        Trap::Size => "java/lang/NegativeArraySizeException",
-    }
 }
 
 /// An int is given.

@@ -1,22 +1,12 @@
 -- How the program's results are seen as replies of the definition.
-use Rattle.std.specs.Prelude.{ℕ, Bool, List, Option, Some, None, codes}
+use Rattle.std.specs.Prelude.{Bool, Option, Some, None}
 use Rattle.dj_values.specs.Values.{Value}
 use Rattle.dj_values.specs.Views.{view_value}
 use Rattle.dj_meaning.specs.Operators.{truth}
 use Rattle.dj_values.specs.Outcomes.{More, Stuck, Reply, Gives, Halts, trap}
-use Rattle.dj_operators.specs.declared.computed.Trap as code_trap
-use Rattle.dj_operators.specs.declared.computed.Trap.TheVariants as traps
+use Rattle.dj_outside.specs.Runs.{trap_class}
 use Rattle.dj_operators.specs.declared.computed.Computed as code_computed
 use Rattle.dj_operators.specs.declared.computed.Computed.TheVariants as results
-
--- the class of an exception that the machine throws by itself
-abbrev pub trap_class : code_trap.Trap → List ℕ
-trap_class traps.Arithmetic = codes "java/lang/ArithmeticException"
-trap_class traps.Null = codes "java/lang/NullPointerException"
-trap_class traps.Bounds = codes "java/lang/ArrayIndexOutOfBoundsException"
-trap_class traps.Store = codes "java/lang/ArrayStoreException"
-trap_class traps.Cast = codes "java/lang/ClassCastException"
-trap_class traps.Size = codes "java/lang/NegativeArraySizeException"
 
 -- a result
 abbrev pub view_computed : code_computed.Computed → Reply Value

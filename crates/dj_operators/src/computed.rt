@@ -4,34 +4,10 @@ ghost use Rattle.std.specs.Prelude.{◌≡◌};
 ghost use Rattle.dj_values.specs.Values.{Int, Long};
 ghost use Rattle.dj_values.specs.Outcomes.{Gives};
 ghost use Rattle.dj_meaning.specs.Operators as spec;
-ghost use Rattle.dj_operators.specs.Computed.{trap_class, view_computed};
+ghost use Rattle.dj_operators.specs.Computed.{view_computed};
 
+use dj_outside::Trap;
 use dj_values::Value;
-
-/// The exceptions that the machine throws by itself (JLS 11.1.1, 15.6).
-#[derive(Clone, Copy)]
-pub enum Trap {
-    Arithmetic,
-    Null,
-    Bounds,
-    Store,
-    Cast,
-    Size,
-}
-
-/// The class of such an exception.
-pub fn class_name(trap: Trap) -> &'static str
-    ensures class { result.now ≡ trap_class trap }
-{
-    match trap {
-        Trap::Arithmetic => "java/lang/ArithmeticException",
-        Trap::Null => "java/lang/NullPointerException",
-        Trap::Bounds => "java/lang/ArrayIndexOutOfBoundsException",
-        Trap::Store => "java/lang/ArrayStoreException",
-        Trap::Cast => "java/lang/ClassCastException",
-        Trap::Size => "java/lang/NegativeArraySizeException",
-    }
-}
 
 /// What an operation on values comes to: a value, an exception, or a stop.
 #[derive(Drop)]

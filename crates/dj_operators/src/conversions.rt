@@ -9,9 +9,10 @@ ghost use Rattle.dj_meaning.specs.Conversions as spec;
 ghost use Rattle.dj_meaning.specs.Objects as spec_objects;
 ghost use Rattle.dj_operators.specs.Computed.{view_computed};
 
-use crate::computed::{Computed, Trap, int, long, truth};
+use crate::computed::{Computed, int, long, truth};
 use dj_headers::{Headers, is_subtype};
 use dj_names::JType;
+use dj_outside::Trap;
 use dj_values::{RefValue, Value};
 
 /// The low eight bits of a number.

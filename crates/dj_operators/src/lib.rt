@@ -11,7 +11,7 @@ mod operators;
 mod promotions;
 mod unary;
 
-pub use computed::{Computed, Trap, class_name};
+pub use computed::Computed;
 pub use conversions::{cast, converted, is_of};
 pub use operators::operated;
 pub use promotions::{Number, becomes_floating, promoted, result_type};

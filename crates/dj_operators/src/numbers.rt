@@ -7,7 +7,8 @@ ghost use Rattle.dj_values.specs.Views.{view_value};
 ghost use Rattle.dj_operators.specs.Computed.{view_computed};
 ghost use Rattle.dj_operators.specs.Strict.{operation_of, IsOfNumbers, IsShift};
 
-use crate::computed::{Computed, Trap, int, long, truth};
+use crate::computed::{Computed, int, long, truth};
+use dj_outside::Trap;
 use dj_syntax::Op;
 use dj_values::Value;
 

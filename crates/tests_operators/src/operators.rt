@@ -2,9 +2,10 @@
 use dj_headers::{Headers, class_of};
 use dj_names::JType;
 use dj_operators::{
-    Computed, becomes_floating, cast, class_name, converted, inverted, is_of, negated, operated,
+    Computed, becomes_floating, cast, converted, inverted, is_of, negated, operated,
     promoted, result_type, truth_of,
 };
+use dj_outside::class_name;
 use dj_syntax::Op;
 use dj_values::{RefId, RefValue, Value};
 use std::test::Fail;

@@ -1,0 +1,2 @@
+-- What the crate promises the programs above.
+pub mod Runs
