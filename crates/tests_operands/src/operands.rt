@@ -2,7 +2,8 @@
 use dj_code::{Calc, Instruction, Kind, Test};
 use dj_names::{Descriptor, JType, SharedList};
 use dj_operands::{
-    Family, Jump, Reply, Stack, all_fitted, calculate, compare, convert, family_of, fitted, int, jump_of, long, parameters_of, shuffle,
+    Family, Jump, Reply, Stack, all_fitted, calculate, compare, convert, family_of, fitted, int,
+    jump_of, long, parameters_of, shuffle,
 };
 use dj_outside::{Trap, class_name};
 use dj_values::Value;

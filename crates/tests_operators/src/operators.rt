@@ -2,8 +2,8 @@
 use dj_headers::{Headers, class_of};
 use dj_names::JType;
 use dj_operators::{
-    Computed, becomes_floating, cast, converted, inverted, is_of, negated, operated,
-    promoted, result_type, truth_of,
+    Computed, becomes_floating, cast, converted, inverted, is_of, negated, operated, promoted,
+    result_type, truth_of,
 };
 use dj_outside::class_name;
 use dj_syntax::Op;
