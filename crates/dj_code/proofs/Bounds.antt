@@ -13,8 +13,8 @@ use Rattle.dj_instructions.specs.RawInstructions.{Raw, size}
 use Rattle.dj_instructions.specs.Listing.{size_of, AreMeant, IsListing, HasBadInstruction}
 use Rattle.dj_instructions.proofs.ListingReading.{size-some}
 use Rattle.dj_frames.specs.Frames.{Tag}
-use Rattle.dj_frames.specs.StackMap.{RawFrame, least_behind, last_offset, frame_behind, BreaksAt, BreaksFrames, broken, second}
-use Rattle.dj_frames.proofs.TableReading.{least_more}
+use Rattle.dj_stack_map.specs.StackMap.{RawFrame, least_behind, last_offset, frame_behind, BreaksAt, BreaksFrames, broken, second}
+use Rattle.dj_stack_map.proofs.TableReading.{least_more}
 use Rattle.dj_code.specs.declared.content.CodeContent.{CodeContent}
 use Rattle.dj_code.specs.CodeContent as layouts
 

@@ -14,8 +14,8 @@ use Rattle.dj_instructions.specs.Instructions.{Instruction, Instructions}
 use Rattle.dj_instructions.specs.Listing.{IsListing, HasBadInstruction}
 use Rattle.dj_instructions.proofs.ListingIsOne.{one_listing, listing_has_no_fault, one_bad}
 use Rattle.dj_frames.specs.Frames.{Frame, entry_values}
-use Rattle.dj_frames.specs.StackMap.{AreFrames, BreaksFrames}
-use Rattle.dj_frames.proofs.TableIsExact.{one_frames, frames_dont_break, one_fault}
+use Rattle.dj_stack_map.specs.StackMap.{AreFrames, BreaksFrames}
+use Rattle.dj_stack_map.proofs.TableIsExact.{one_frames, frames_dont_break, one_fault}
 use Rattle.dj_code.specs.declared.content.CodeContent.{CodeContent}
 use Rattle.dj_code.specs.declared.content.RawHandler.{RawHandler}
 use Rattle.dj_code.specs.declared.method_code.Handler.{Handler}

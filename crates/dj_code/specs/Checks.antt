@@ -11,7 +11,7 @@ use Rattle.dj_instructions.specs.Instructions.{Instructions, view_instructions}
 use Rattle.dj_instructions.specs.Listing.{IsListing, HasBadInstruction}
 use Rattle.dj_frames.specs.declared.frame.Frame as code_frame
 use Rattle.dj_frames.specs.Frames.{view_frames}
-use Rattle.dj_frames.specs.StackMap.{AreFrames, BreaksFrames}
+use Rattle.dj_stack_map.specs.StackMap.{AreFrames, BreaksFrames}
 use Rattle.dj_frames.specs.Frames.{Tag}
 use Rattle.dj_code.specs.declared.content.CodeContent.{CodeContent}
 use Rattle.dj_code.specs.declared.fault.CodeFault.{CodeFault}

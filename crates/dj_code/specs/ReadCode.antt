@@ -10,7 +10,7 @@ use Rattle.dj_instructions.specs.declared.kinds.BadKind.TheVariants as kind
 use Rattle.dj_instructions.specs.Instructions.{Instructions}
 use Rattle.dj_instructions.specs.Listing.{IsListing, HasBadInstruction}
 use Rattle.dj_frames.specs.Frames.{entry_values}
-use Rattle.dj_frames.specs.StackMap.{AreFrames, BreaksFrames}
+use Rattle.dj_stack_map.specs.StackMap.{AreFrames, BreaksFrames}
 use Rattle.dj_code.specs.declared.content.CodeContent.{CodeContent}
 use Rattle.dj_code.specs.declared.fault.CodeFault.{CodeFault}
 use Rattle.dj_code.specs.declared.fault.CodeFault.TheVariants as fault

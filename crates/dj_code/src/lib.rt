@@ -1,5 +1,5 @@
 //! The code of methods, whole: its instructions, its exception table and its frames, or the first fault (JVMS 4.7.3, 4.9.1).
-//! It stands on `dj_instructions` and `dj_frames`, whose types it gives on, on `dj_class` for attributes, on `dj_layout` for the format, and on `dj_names` for names and types.
+//! It stands on `dj_instructions` and `dj_frames`, whose types it gives on, on `dj_stack_map` for the table of frames, on `dj_class` for attributes, on `dj_layout` for the format, and on `dj_names` for names and types.
 //! The layers above use `read_code` and `read_code_of`, which answer the code exactly where the content of a Code attribute is one and else its first fault, `read_content`, and `copy` of each type.
 #![tactic(auto)]
 

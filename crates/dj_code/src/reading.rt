@@ -18,10 +18,11 @@ use crate::method_code::Code;
 use crate::ranges::{handlers_of, wrong_range, wrong_target};
 use crate::targets::wrong_jump;
 use dj_class::{ClassFile, Method, Pool, is_interface};
-use dj_frames::{Frame, read_frames};
+use dj_frames::Frame;
 use dj_instructions::{BadKind, Instruction, read_instructions};
 use dj_layout::Stop;
 use dj_names::{Items, copy_names};
+use dj_stack_map::read_frames;
 use std::alloc::{AllocError, Global};
 
 /// The content of a Code.

@@ -1,51 +1,11 @@
 -- Objects in slots that aren't constructed yet, and lists with another tag in their place.
-use Rattle.std.proofs.Common.{◌≡◌, ℕ, zero, suc, ◌+◌, ◌<◌, ◌≤◌, ◌⊎◌, Bool, true, false, ◌||◌, List, [], ◌∷◌, length, map, set, get_or, slice_get, Option, Some, None, is_some, refl, sym, ap, ◌∙◌, inl, inr, arith}
+use Rattle.std.proofs.Common.{◌≡◌, ℕ, zero, suc, ◌+◌, ◌<◌, ◌≤◌, ◌⊎◌, Bool, true, false, ◌||◌, List, [], ◌∷◌, length, map, set, get_or, Option, Some, None, is_some, refl, sym, ap, ◌∙◌, inl, inr, arith}
 use Rattle.std.specs.List.{list_any}
 use Rattle.std.proofs.lemmas.Bool.{cases_lt}
-use Rattle.std.proofs.lemmas.List.{length-map, length-set, get_or-set_same, get_or-set_other, get_or-map, get_or_past, ext_get_or}
+use Rattle.std.proofs.lemmas.List.{length-map, length-set, get_or-set_same, get_or-set_other, get_or-map, ext_get_or}
 use Rattle.std.proofs.lemmas.List.Folds.{list_any_at}
-use Rattle.dj_frames.specs.declared.tag.Tag as code
-use Rattle.dj_frames.specs.Frames.{Tag, Top, Int, Float, Double, Long, Null, UnbornThis, Object, Unborn, view_tag, view_tags, is_any_unborn, IsFirst, IsNext}
-use Rattle.dj_effects.specs.declared.unborn.Unborn as code_unborn
-use Rattle.dj_effects.specs.declared.unborn.Unborn.TheVariants as unborn
+use Rattle.dj_frames.specs.Frames.{Tag, Top, IsFirst, IsNext}
 use Rattle.dj_effects.specs.Effects.{instead}
-use Rattle.dj_effects.specs.Doing.{is_unborn}
-
--- the tag in a slot
-pub seen_there : (slots : List code.Tag) (k : ℕ) (tag : code.Tag) → Some tag ≡ slice_get slots k → get_or (view_tags slots) k Top ≡ view_tag tag
-seen_there [] k tag is = absurd (cc)
-seen_there (first ∷ slots) zero tag is = let same : first ≡ tag = cc in ap view_tag same
-seen_there (first ∷ slots) (suc k) tag is = seen_there slots k tag is
-
-pub seen_none : (slots : List code.Tag) (k : ℕ) → None ≡ slice_get slots k → get_or (view_tags slots) k Top ≡ Top
-seen_none [] k is = get_or_past [] k Top (omega arith)
-seen_none (first ∷ slots) zero is = absurd (cc)
-seen_none (first ∷ slots) (suc k) is = seen_none slots k is
-
-pub top_is_born : (which : code_unborn.Unborn) → is_unborn which Top ≡ false
-top_is_born unborn.This = refl
-top_is_born (unborn.At pc) = refl
-
--- a tag of no such object isn't that of this one
-pub born : (which : code_unborn.Unborn) (tag : Tag) → is_any_unborn tag ≡ false → is_unborn which tag ≡ false
-born unborn.This Top is = refl
-born unborn.This Int is = refl
-born unborn.This Float is = refl
-born unborn.This Double is = refl
-born unborn.This Long is = refl
-born unborn.This Null is = refl
-born unborn.This UnbornThis is = absurd (cc)
-born unborn.This (Object type) is = refl
-born unborn.This (Unborn pc) is = refl
-born (unborn.At at) Top is = refl
-born (unborn.At at) Int is = refl
-born (unborn.At at) Float is = refl
-born (unborn.At at) Double is = refl
-born (unborn.At at) Long is = refl
-born (unborn.At at) Null is = refl
-born (unborn.At at) UnbornThis is = refl
-born (unborn.At at) (Object type) is = refl
-born (unborn.At at) (Unborn pc) is = absurd (cc)
 
 -- ---- whether there is one
 

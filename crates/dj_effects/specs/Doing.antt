@@ -1,26 +1,21 @@
 -- What the functions that work on frames promise each other.
-use Rattle.std.specs.Prelude.{◌≡◌, ◌↔◌, ℕ, zero, suc, List, [], ◌∷◌, map, Option, Some, None, Bool, true, false, slice_get, codes}
+use Rattle.std.specs.Prelude.{◌≡◌, ℕ, zero, suc, List, [], ◌∷◌, map, Option, Some, None, Bool, false, slice_get, codes}
 use Rattle.std.specs.Option.{option_and_then}
-use Rattle.dj_names.specs.declared.header.Header.{Header}
 use Rattle.dj_names.specs.Types as type
 use Rattle.dj_names.specs.Types.{Class, Array, view_type}
 use Rattle.dj_names.specs.Assignable.{object_name}
-use Rattle.dj_frames.specs.Frames.{Tag, Top, Int, Float, Double, Long, Null, UnbornThis, Object, Unborn, tag_of, view_tag, view_tags, is_unborn_this}
-use Rattle.dj_code.specs.MethodCode.{Code}
+use Rattle.dj_frames.specs.Frames.{Tag, Top, Int, Float, Double, Long, Null, UnbornThis, Object, Unborn, tag_of, view_tag, view_tags}
 use Rattle.dj_effects.specs.declared.want.Want as code_want
 use Rattle.dj_effects.specs.declared.want.Want.TheVariants as code
-use Rattle.dj_effects.specs.declared.forms.Form as code_form
 use Rattle.dj_effects.specs.declared.known.ClassTags as code_classes
 use Rattle.dj_effects.specs.declared.known.ArrayTags as code_arrays
 use Rattle.dj_effects.specs.declared.known.Known as code_known
-use Rattle.dj_effects.specs.declared.unborn.Unborn as code_unborn
-use Rattle.dj_effects.specs.declared.unborn.Unborn.TheVariants as unborn
+use Rattle.dj_frames.specs.declared.unborn.Unborn as code_unborn
+use Rattle.dj_frames.specs.declared.unborn.Unborn.TheVariants as unborn
 use Rattle.dj_effects.specs.declared.working.Working as code_working
-use Rattle.dj_tags.specs.Goes.{Assignability, Working}
-use Rattle.dj_effects.specs.Works.{Want, Of, Reference, AnyArray, ByteArray, Form, Work}
+use Rattle.dj_tags.specs.Goes.{Working}
+use Rattle.dj_effects.specs.Works.{Want, Of, Reference, AnyArray, ByteArray}
 use Rattle.dj_effects.specs.Rows.{object, throwable_name}
-use Rattle.dj_effects.specs.Operands.{HasOperands, is_unborn_at}
-use Rattle.dj_effects.specs.Effects.{effect}
 
 -- a working frame of the code, seen as plain data
 abbrev pub view_working : code_working.Working → Working
@@ -38,10 +33,6 @@ view_want code.ByteArray = ByteArray
 -- wants of the code, in order
 abbrev pub view_wants : List code_want.Want → List Want
 view_wants = map view_want
-
--- a form of the code, seen as plain data
-abbrev pub view_form : code_form.Form → Form
-view_form form = record { takes = form.takes.now; gives = form.gives.now }
 
 -- the references are those of the classes that they are called after
 pub record AreClasses (tags : code_classes.ClassTags) : Type 0 where
@@ -67,11 +58,6 @@ pub record IsKnown (known : code_known.Known) : Type 0 where
   pub classes : AreClasses known.classes
   pub arrays : AreArrays known.arrays
 
--- the test for an object that isn't constructed yet
-abbrev pub is_unborn : code_unborn.Unborn → Tag → Bool
-is_unborn unborn.This = is_unborn_this
-is_unborn (unborn.At pc) = is_unborn_at pc
-
 -- the object that a tag tells of, where it isn't constructed yet
 abbrev pub unborn_of : Tag → Option code_unborn.Unborn
 unborn_of Top = None
@@ -93,8 +79,3 @@ abbrev pub passes_at : {A : Type 0} → (A → Bool) → ℕ → List A → Bool
 passes_at test place [] = false
 passes_at test zero (x ∷ list) = test x
 passes_at test (suc place) (x ∷ list) = passes_at test place list
-
--- what was done to a frame: whether the operands were there, and then the effect
-pub record Did (Goes : Assignability) (headers : List Header) (code : Code) (pc : ℕ) (work : Work) (old : Working) (done : Bool) (new : Working) : Type 0 where
-  pub operands : (done ≡ true) ↔ HasOperands Goes headers code pc work old
-  pub effect : done ≡ true → new ≡ effect code pc work old

@@ -4,11 +4,11 @@ use Rattle.std.specs.Option.{option_and_then}
 use Rattle.dj_names.specs.Types.{JType, Class}
 use Rattle.dj_instructions.specs.declared.kinds.Kind.{Kind}
 use Rattle.dj_instructions.specs.declared.kinds.Kind.TheVariants as kind
-use Rattle.dj_frames.specs.Frames.{Tag, Top, Int, Float, Double, Long, Null, UnbornThis, Object, Unborn, is_unborn_this}
+use Rattle.dj_frames.specs.Frames.{Tag, Top, Int, Float, Double, Long, Null, UnbornThis, Object, Unborn, is_unborn_this, is_unborn_at}
 use Rattle.dj_code.specs.MethodCode.{Code}
 use Rattle.dj_tags.specs.Goes.{Working, words}
 use Rattle.dj_effects.specs.Works.{Form, Work, Plain, Moves, Loads, Stores, Counts, Makes, Bears, Elements, Sets, Supers, Leaves, Never}
-use Rattle.dj_effects.specs.Operands.{form_of, moved_words, under, element_tag, is_unborn_at}
+use Rattle.dj_effects.specs.Operands.{form_of, moved_words, under, element_tag}
 
 -- ---- the stack
 

@@ -9,7 +9,7 @@ use Rattle.dj_names.specs.MethodNames.{is_constructor}
 use Rattle.dj_instructions.specs.declared.kinds.Kind.{Kind}
 use Rattle.dj_instructions.specs.declared.kinds.Kind.TheVariants as kind
 use Rattle.dj_instructions.specs.Instructions.{New, instruction_at}
-use Rattle.dj_frames.specs.Frames.{Tag, Top, Int, Float, Double, Long, Null, UnbornThis, Object, Unborn, tag_of}
+use Rattle.dj_frames.specs.Frames.{Tag, Top, Int, Float, Double, Long, Null, UnbornThis, Object, Unborn, tag_of, is_unborn_at}
 use Rattle.dj_code.specs.MethodCode.{Code}
 use Rattle.dj_tags.specs.Goes.{Assignability, LocalGoes, Working}
 use Rattle.dj_tags.specs.Laxly.{IsUnknown}
@@ -165,18 +165,6 @@ CanBeBorn headers code owner (Null ∷ below) = ⊥
 CanBeBorn headers code owner (UnbornThis ∷ below) = ConstructsThis headers code.class owner
 CanBeBorn headers code owner (Object type ∷ below) = ⊥
 CanBeBorn headers code owner (Unborn pc ∷ below) = IsNewOf code pc owner
-
--- the object that the `new` at this offset made
-abbrev pub is_unborn_at : ℕ → Tag → Bool
-is_unborn_at pc Top = false
-is_unborn_at pc Int = false
-is_unborn_at pc Float = false
-is_unborn_at pc Double = false
-is_unborn_at pc Long = false
-is_unborn_at pc Null = false
-is_unborn_at pc UnbornThis = false
-is_unborn_at pc (Object type) = false
-is_unborn_at pc (Unborn other) = other == pc
 
 -- what lies below what is taken
 abbrev pub under : {A : Type 0} → List Want → List A → List A

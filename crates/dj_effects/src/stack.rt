@@ -3,14 +3,13 @@
 ghost use Rattle.std.specs.Prelude.{◌≡◌, ◌∷◌, ◌++◌, map, drop, slice_get, IfOk, OnOk};
 ghost use Rattle.std.specs.List.{list_any};
 ghost use Rattle.std.specs.Option.{option_copied};
-ghost use Rattle.dj_frames.specs.Frames.{view_tag, view_tags};
+ghost use Rattle.dj_frames.specs.Frames.{view_tag, view_tags, is_unborn};
 ghost use Rattle.dj_tags.specs.Goes.{reversed};
 ghost use Rattle.dj_effects.specs.Effects.{instead};
 ghost use Rattle.dj_effects.specs.Stacked.{tags_of};
-ghost use Rattle.dj_effects.specs.Doing.{is_unborn};
 
-use crate::unborn::{Unborn, is_kept, is_unborn, replace_all};
-use dj_frames::{Slots, Tag};
+use crate::unborn::{is_kept, replace_all};
+use dj_frames::{Slots, Tag, Unborn, is_unborn};
 use smallvec::SmallVec;
 use std::alloc::{AllocError, Global};
 use std::default::MadeWith;

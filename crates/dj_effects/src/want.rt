@@ -8,7 +8,6 @@ ghost use Rattle.dj_effects.specs.Rows.{arguments};
 ghost use Rattle.dj_effects.specs.Operands.{is_reference, is_array_of, is_byte_or_boolean, HasKind, IsWanted, AreWanted};
 ghost use Rattle.dj_effects.specs.Doing.{view_want, view_wants};
 
-use crate::stack::Stack;
 use dj_frames::Tag;
 use dj_instructions::Kind;
 use dj_names::JType;

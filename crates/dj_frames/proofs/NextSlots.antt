@@ -4,7 +4,7 @@ use Rattle.std.proofs.lemmas.List.{get_or-map}
 use Rattle.dj_frames.specs.declared.tag.Tag.{Tag}
 use Rattle.dj_frames.specs.declared.tag.Tag.TheVariants.{Top}
 use Rattle.dj_frames.specs.Frames as spec
-use Rattle.dj_frames.specs.Frames.{view_tag, view_tags, is_any_unborn, IsFirst, IsNext}
+use Rattle.dj_frames.specs.Frames.{view_tag, view_tags, IsFirst, IsNext}
 use Rattle.dj_frames.specs.SlotTree.{first_tags}
 use Rattle.dj_frames.proofs.SlotTags.{length_first, get_first}
 
@@ -23,10 +23,10 @@ next_same p q start end end' None e same none = λ place ge lt. sym (same place 
 next_same p q start end end' (Some place) e same f = first_same p q start end end' place e same f
 
 -- the first slots of a tree, as a list
-pub next_viewed : (count start : ℕ) (at : ℕ → Tag) (tags : List Tag) (found : Option ℕ) → first_tags count at ≡ tags → IsNext (λ slot. is_any_unborn (view_tag (at slot))) start count found → IsNext (λ slot. is_any_unborn (get_or (view_tags tags) slot spec.Top)) start (length tags) found
-next_viewed count start at tags found is next =
-    next_same (λ slot. is_any_unborn (view_tag (at slot))) (λ slot. is_any_unborn (get_or (view_tags tags) slot spec.Top)) start count (length tags) found (sym (length_first count at) ∙ ap length is)
-    (λ s lt. ap is_any_unborn (viewed s lt)) next
+pub next_viewed : (test : spec.Tag → Bool) (count start : ℕ) (at : ℕ → Tag) (tags : List Tag) (found : Option ℕ) → first_tags count at ≡ tags → IsNext (λ slot. test (view_tag (at slot))) start count found → IsNext (λ slot. test (get_or (view_tags tags) slot spec.Top)) start (length tags) found
+next_viewed test count start at tags found is next =
+    next_same (λ slot. test (view_tag (at slot))) (λ slot. test (get_or (view_tags tags) slot spec.Top)) start count (length tags) found (sym (length_first count at) ∙ ap length is)
+    (λ s lt. ap test (viewed s lt)) next
   where
     viewed : (s : ℕ) → s < count → view_tag (at s) ≡ get_or (view_tags tags) s spec.Top
     viewed s lt =

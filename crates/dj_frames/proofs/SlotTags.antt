@@ -14,10 +14,10 @@ use Rattle.dj_frames.specs.SlotTree.{listed, joined, tag_in, over, cut, first_ta
 
 -- ---- below and above a place
 
-joined_below : (half slot : ℕ) (lower upper : ℕ → Tag) → slot < half → joined half lower upper slot ≡ lower slot
+pub joined_below : (half slot : ℕ) (lower upper : ℕ → Tag) → slot < half → joined half lower upper slot ≡ lower slot
 joined_below half slot lower upper lt = rw (lt-ltb slot half lt) refl
 
-joined_above : (half slot : ℕ) (lower upper : ℕ → Tag) → half ≤ slot → joined half lower upper slot ≡ upper (slot - half)
+pub joined_above : (half slot : ℕ) (lower upper : ℕ → Tag) → half ≤ slot → joined half lower upper slot ≡ upper (slot - half)
 joined_above half slot lower upper le = rw (le-ltb slot half le) refl
 
 pub over_below : (start slot : ℕ) (tags : List Tag) (before : ℕ → Tag) → slot < start → over start tags before slot ≡ before slot

@@ -9,6 +9,8 @@ use Rattle.dj_class.specs.Described.{MethodOf}
 use Rattle.dj_frames.specs.declared.tag.Tag as declared
 use Rattle.dj_frames.specs.declared.tag.Tag.TheVariants as code
 use Rattle.dj_frames.specs.declared.frame.Frame as code_frame
+use Rattle.dj_frames.specs.declared.unborn.Unborn as code_unborn
+use Rattle.dj_frames.specs.declared.unborn.Unborn.TheVariants as unborn
 
 -- a verification type; UnbornThis is `this` before its constructor is called, Unborn an object before its own, by the pc of its `new`
 pub data Tag : Type 0 where
@@ -78,17 +80,22 @@ is_unborn_this UnbornThis = true
 is_unborn_this (Object type) = false
 is_unborn_this (Unborn pc) = false
 
--- whether a value is an object that isn't constructed yet, `this` or another
-abbrev pub is_any_unborn : Tag → Bool
-is_any_unborn Top = false
-is_any_unborn Int = false
-is_any_unborn Float = false
-is_any_unborn Double = false
-is_any_unborn Long = false
-is_any_unborn Null = false
-is_any_unborn UnbornThis = true
-is_any_unborn (Object type) = false
-is_any_unborn (Unborn pc) = true
+-- whether a value is the object of the `new` at a pc, before its constructor is called
+abbrev pub is_unborn_at : ℕ → Tag → Bool
+is_unborn_at pc Top = false
+is_unborn_at pc Int = false
+is_unborn_at pc Float = false
+is_unborn_at pc Double = false
+is_unborn_at pc Long = false
+is_unborn_at pc Null = false
+is_unborn_at pc UnbornThis = false
+is_unborn_at pc (Object type) = false
+is_unborn_at pc (Unborn other) = other == pc
+
+-- the test for an object that isn't constructed yet
+abbrev pub is_unborn : code_unborn.Unborn → Tag → Bool
+is_unborn unborn.This = is_unborn_this
+is_unborn (unborn.At pc) = is_unborn_at pc
 
 -- a place from one up to an end is the first that passes
 pub record IsFirst (passes : ℕ → Bool) (start end place : ℕ) : Type 0 where

@@ -1,7 +1,5 @@
--- What the public contracts rest on, in reading order.
+-- What the public contracts rest on.
 pub mod Frames
-pub mod StackMap
 -- What the crate keeps to itself.
 pub mod SlotTree
 pub mod Locals
-pub mod Reading

@@ -3,14 +3,16 @@
 ghost use Rattle.std.specs.Prelude.{◌≡◌, ◌<◌, ◌≤◌, ◌^◌, ◌+◌, ◌-◌, ◌++◌, ◌∷◌, [], ℕ, length, take, replicate, flat_map, get_or, slice_get, slice_set, IfOk, OnOk, OnErr, IsTrue, ◌↔◌};
 ghost use Rattle.std.specs.Option.{option_copied};
 ghost use Rattle.dj_frames.specs.declared.tag.Tag.TheVariants as declared_tag;
-ghost use Rattle.dj_frames.specs.Frames.{Top, view_tags, slots_of, is_any_unborn, IsNext};
-ghost use Rattle.dj_frames.specs.SlotTree.{over, cut, tag_in, first_tags, words_in};
+ghost use Rattle.dj_frames.specs.Frames.{Top, view_tags, slots_of, is_unborn, IsNext};
+ghost use Rattle.dj_frames.specs.SlotTree.{over, cut, tag_in, first_tags, words_in, IsMarked};
 
 use crate::tag::Tag;
-use crate::tree::{LEAF_DEPTH, Tree, clear, deeper, get, is_clear, leaf, next_unborn, put, share};
+use crate::tree::{LEAF_DEPTH, Tree, clear, deeper, get, is_clear, leaf, next_of, put, share};
+use crate::unborn::Unborn;
 use dj_names::Items;
 use std::alloc::{AllocError, Global};
 use std::marker::Model;
+use std::rc::Rc;
 use std::slice;
 
 /// Tags in order, kept in the first slots of a tree, with their number and that of their words.
@@ -81,18 +83,25 @@ fn has_room(depth: u32, count: u32) -> bool
 }
 
 /// The same tags in a tree that has room for so many, and its depth; an error says that there is no
-/// memory for it, or that no tree is as deep.
+/// memory for it, or that no tree is as deep. The slots above share one part.
 fn with_room(alloc: Global, tree: &Tree, depth: u32, count: u32) -> Result<(u32, Tree), AllocError>
+    requires shallow { depth < 64 }
+    requires marked { IsMarked tree.now }
     ensures small { IfOk result (λ after. after.0 < 64) }
     ensures room { IfOk result (λ after. count ≤ 2 ^ after.0) }
     ensures same { (slot : ℕ) → slot < 2 ^ depth → IfOk result (λ after. tag_in after.0 after.1 slot ≡ tag_in depth tree.now slot) }
+    ensures marked { IfOk result (λ after. IsMarked after.1) }
 {
     let mut grown = share(alloc, tree)?;
-    for now in depth..64 {
+    if has_room(depth, count) {
+        return Ok((depth, grown));
+    }
+    let above = Rc::new(alloc, Tree::All(Tag::Top))?;
+    for now in depth + 1..64 {
+        grown = deeper(alloc, &grown, &above)?;
         if has_room(now, count) {
             return Ok((now, grown));
         }
-        grown = deeper(alloc, &grown)?;
     }
     Err(AllocError)
 }
@@ -114,7 +123,9 @@ fn stand(tree: &Tree, depth: u32, start: usize, tags: &[Tag]) -> bool
 /// The tree with Top in each slot from one on, which is the same one where that is so.
 fn cleared(alloc: Global, tree: Tree, depth: u32, from: usize) -> Result<Tree, AllocError>
     requires small { depth ≤ 64 }
+    requires marked { IsMarked tree }
     ensures cut { (slot : ℕ) → slot < 2 ^ depth → IfOk result (λ after. tag_in depth after slot ≡ cut from (tag_in depth tree) slot) }
+    ensures marked { IfOk result IsMarked }
 {
     if is_clear(&tree, depth, from) {
         return Ok(tree);
@@ -232,11 +243,11 @@ impl Slots {
         }
     }
 
-    /// The first slot from one on that has an object that isn't constructed yet.
-    pub fn next_unborn(&self, start: usize) -> Option<usize>
-        ensures next { IsNext (λ slot. is_any_unborn (get_or (view_tags self.now) slot Top)) start (length self.now) result }
+    /// The first slot from one on that has an object which isn't constructed yet.
+    pub fn next_of(&self, start: usize, unborn: Unborn) -> Option<usize>
+        ensures next { IsNext (λ slot. is_unborn unborn (get_or (view_tags self.now) slot Top)) start (length self.now) result }
     {
-        next_unborn(&self.tree, self.depth, start, self.count as usize)
+        next_of(&self.tree, self.depth, start, self.count as usize, unborn)
     }
 
     /// Puts tags behind the others; an error says that memory is wanting, or that there would be more

@@ -2,7 +2,7 @@
 
 ghost use Rattle.std.specs.Prelude.{◌≡◌, IfOk, IsTrue, length};
 ghost use Rattle.dj_names.specs.Types.{view_type};
-ghost use Rattle.dj_frames.specs.Frames.{view_tag, slots_of, is_unborn_this, is_any_unborn, tag_of};
+ghost use Rattle.dj_frames.specs.Frames.{view_tag, slots_of, is_unborn_this, tag_of};
 
 use dj_names::JType;
 use std::alloc::{AllocError, Global};
@@ -103,22 +103,6 @@ impl Tag {
             | Tag::Null
             | Tag::Object(_)
             | Tag::Unborn(_) => false,
-        }
-    }
-
-    /// Whether it is an object before its constructor is called, `this` or another.
-    pub fn is_any_unborn(&self) -> bool
-        ensures unborn { result ≡ is_any_unborn (view_tag self.now) }
-    {
-        match self {
-            Tag::UnbornThis | Tag::Unborn(_) => true,
-            Tag::Top
-            | Tag::Int
-            | Tag::Float
-            | Tag::Double
-            | Tag::Long
-            | Tag::Null
-            | Tag::Object(_) => false,
         }
     }
 }

@@ -8,8 +8,8 @@ use Rattle.std.proofs.lemmas.Option.{none-some, same_Some}
 use Rattle.std.proofs.lemmas.List.{drop_all, get_or-map, length-map}
 use Rattle.dj_instructions.specs.declared.instruction.Instruction as declared
 use Rattle.dj_instructions.specs.Instructions.{Instructions, New, instruction_at, view_instruction, view_instructions, IsRisingFrom}
-use Rattle.dj_frames.specs.Reading.{IsNew}
-use Rattle.dj_frames.specs.StackMap.{IsNewAt}
+use Rattle.dj_stack_map.specs.Reading.{IsNew}
+use Rattle.dj_stack_map.specs.StackMap.{IsNewAt}
 use Rattle.dj_code.specs.MethodCode.{Typed}
 use Rattle.dj_code.specs.Targets.{IsStart}
 use Rattle.dj_starts.specs.declared.birth.Birth.{Birth}

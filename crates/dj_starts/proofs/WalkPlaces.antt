@@ -8,7 +8,7 @@ use Rattle.dj_instructions.specs.declared.instruction.Instruction as declared
 use Rattle.dj_instructions.specs.Instructions.{Instruction, view_instruction, view_instructions, IsRising}
 use Rattle.dj_frames.specs.declared.frame.Frame as code_frame
 use Rattle.dj_frames.specs.Frames.{view_frame}
-use Rattle.dj_frames.specs.StackMap.{IsNewAt}
+use Rattle.dj_stack_map.specs.StackMap.{IsNewAt}
 use Rattle.dj_code.specs.declared.method_code.Typed as code_typed
 use Rattle.dj_code.specs.MethodCode.{view_typed}
 use Rattle.dj_starts.specs.declared.calls.Met.{Met}

@@ -7,7 +7,7 @@ use Rattle.std.proofs.lemmas.Bool.Decides.{eqb_tells}
 use Rattle.std.proofs.lemmas.Option.{none-some, same_Some, MatchOption-at_some}
 use Rattle.dj_names.specs.Types.{result_of}
 use Rattle.dj_instructions.specs.Instructions.{Instruction, Instructions, New, InvokeVirtual, InvokeSpecial, InvokeStatic, InvokeInterface, InvokeDynamic, instruction_at, IsRisingFrom}
-use Rattle.dj_frames.specs.StackMap.{IsNewAt}
+use Rattle.dj_stack_map.specs.StackMap.{IsNewAt}
 use Rattle.dj_code.specs.MethodCode.{Typed}
 use Rattle.dj_starts.specs.declared.calls.Met.{Met}
 use Rattle.dj_starts.specs.declared.roles.Role.{Role}

@@ -3,8 +3,8 @@ use Rattle.std.specs.Prelude.{◌≡◌, ◌⊎◌, ◌↔◌, ℕ, ◌+◌, ◌
 use Rattle.std.specs.List.{Contains, AllPairs}
 use Rattle.dj_instructions.specs.Instructions.{Instruction, Instructions}
 use Rattle.dj_frames.specs.Frames.{Frame}
-use Rattle.dj_frames.specs.Reading.{IsNew}
-use Rattle.dj_frames.specs.StackMap.{IsNewAt}
+use Rattle.dj_stack_map.specs.Reading.{IsNew}
+use Rattle.dj_stack_map.specs.StackMap.{IsNewAt}
 use Rattle.dj_code.specs.MethodCode.{Code, Typed}
 use Rattle.dj_code.specs.Targets.{IsStart}
 use Rattle.dj_starts.specs.declared.birth.Birth.{Birth}

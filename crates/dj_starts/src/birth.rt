@@ -4,8 +4,8 @@ ghost use Rattle.std.specs.Prelude.{◌≡◌, ◌<◌, ◌↔◌, ℕ, map, IfO
 ghost use Rattle.std.specs.List.{AllPairs, Contains};
 ghost use Rattle.dj_instructions.specs.Instructions.{view_instruction, view_instructions, IsRising};
 ghost use Rattle.dj_code.specs.MethodCode.{view_typed};
-ghost use Rattle.dj_frames.specs.Reading.{IsNew};
-ghost use Rattle.dj_frames.specs.StackMap.{IsNewAt};
+ghost use Rattle.dj_stack_map.specs.Reading.{IsNew};
+ghost use Rattle.dj_stack_map.specs.StackMap.{IsNewAt};
 ghost use Rattle.dj_starts.specs.Births.{IsBirth};
 ghost use Rattle.dj_starts.specs.Marks.{MarksMore};
 ghost use Rattle.dj_starts.specs.Walking.{IsNewIn, birth_of};

@@ -3,7 +3,7 @@
 ghost use Rattle.std.specs.Prelude.{◌↔◌, ℕ, [], map, IfOk};
 ghost use Rattle.dj_instructions.specs.Instructions.{view_instructions, IsRising};
 ghost use Rattle.dj_frames.specs.Frames.{view_frame, view_frames};
-ghost use Rattle.dj_frames.specs.StackMap.{IsNewAt};
+ghost use Rattle.dj_stack_map.specs.StackMap.{IsNewAt};
 ghost use Rattle.dj_code.specs.MethodCode.{view_code, view_typed};
 ghost use Rattle.dj_starts.specs.Births.{IsWritten, IsGiven, IsBound};
 ghost use Rattle.dj_starts.specs.Marks.{IsMarked, MarksMore};

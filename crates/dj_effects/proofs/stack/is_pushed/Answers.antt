@@ -1,8 +1,7 @@
 use Rattle.std.proofs.Common.{◌≤◌, ◌∙◌, sym, length, arith, add-one}
 use Rattle.std.proofs.lemmas.List.{length-map}
-use Rattle.dj_frames.specs.Frames.{view_tag, view_tags}
+use Rattle.dj_frames.specs.Frames.{view_tag, view_tags, is_unborn}
 use Rattle.dj_effects.specs.Stacked.{tags_of}
-use Rattle.dj_effects.specs.Doing.{is_unborn}
 use Rattle.dj_effects.proofs.Lists.{any_here, any_next, any_none, entry_passes}
 use Rattle.dj_effects.proofs.stack.is_pushed.Goals as goal
 

@@ -1,8 +1,7 @@
 use Rattle.std.proofs.Common.{◌≡◌, drop}
 use Rattle.std.specs.List.{list_any}
-use Rattle.dj_frames.specs.Frames.{view_tags}
+use Rattle.dj_frames.specs.Frames.{view_tags, is_unborn}
 use Rattle.dj_effects.specs.Stacked.{tags_of}
-use Rattle.dj_effects.specs.Doing.{is_unborn}
 use Rattle.dj_effects.proofs.stack.is_pushed.Given as goal
 
 abbrev pub invariant-loop-entry : goal.invariant-loop-entry

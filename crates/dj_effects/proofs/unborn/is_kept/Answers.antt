@@ -1,7 +1,6 @@
 use Rattle.std.proofs.Common.{◌∙◌, length, sym}
 use Rattle.std.proofs.lemmas.List.{length-map}
-use Rattle.dj_frames.specs.Frames.{view_tag, view_tags}
-use Rattle.dj_effects.specs.Doing.{is_unborn}
+use Rattle.dj_frames.specs.Frames.{view_tag, view_tags, is_unborn}
 use Rattle.dj_effects.proofs.Replacing.{any_is}
 use Rattle.dj_effects.proofs.unborn.is_kept.Goals as goal
 

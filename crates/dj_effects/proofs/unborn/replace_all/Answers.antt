@@ -1,8 +1,7 @@
 use Rattle.std.proofs.Common.{◌≡◌, ◌∙◌, length, sym, ap, arith}
 use Rattle.std.specs.Prelude.{slice_set}
 use Rattle.std.proofs.lemmas.List.{length-map}
-use Rattle.dj_frames.specs.Frames.{view_tag, view_tags}
-use Rattle.dj_effects.specs.Doing.{is_unborn}
+use Rattle.dj_frames.specs.Frames.{view_tag, view_tags, is_unborn}
 use Rattle.dj_effects.proofs.Lists.{set_map}
 use Rattle.dj_effects.proofs.Replacing.{replaced_none, replaced_more, replaced_all}
 use Rattle.dj_effects.proofs.unborn.replace_all.Goals as goal

@@ -1,7 +1,6 @@
 use Rattle.std.proofs.Common.{◌-◌}
-use Rattle.dj_frames.specs.Frames.{view_tag, view_tags}
+use Rattle.dj_frames.specs.Frames.{view_tag, view_tags, is_unborn}
 use Rattle.dj_effects.specs.Effects.{instead}
-use Rattle.dj_effects.specs.Doing.{is_unborn}
 use Rattle.dj_effects.proofs.Replacing.{IsReplaced}
 use Rattle.dj_effects.proofs.unborn.replace_all.Given as goal
 

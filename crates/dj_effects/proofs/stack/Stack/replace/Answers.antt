@@ -1,9 +1,8 @@
 use Rattle.std.proofs.Common.{◌≡◌, ◌++◌, ◌∙◌, ap, map, sym}
-use Rattle.dj_frames.specs.Frames.{view_tag, view_tags}
+use Rattle.dj_frames.specs.Frames.{view_tag, view_tags, is_unborn}
 use Rattle.dj_tags.specs.Goes.{reversed}
 use Rattle.dj_effects.specs.Stacked.{tags_of}
 use Rattle.dj_effects.specs.Effects.{instead}
-use Rattle.dj_effects.specs.Doing.{is_unborn}
 use Rattle.dj_effects.proofs.Stacking.{turned_back, map_reversed}
 use Rattle.dj_effects.proofs.stack.Stack.replace.Goals as goal
 

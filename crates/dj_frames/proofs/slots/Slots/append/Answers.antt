@@ -16,6 +16,7 @@ invariant_of-self c =
       room = first_of (search rules, grind (arith, common_steps), omega arith);
       counted = words_behind i.words c.in_ok-words.words (first_tags i.count (tag_in i.depth i.tree)) tags (first_tags c.in_ok-count.count (tag_in i.depth i.tree)) c.self.invariant.counted c.in_ok-words.ensures.sum
           (ap (λ (n : ℕ). first_tags n (tag_in i.depth i.tree)) total ∙ first_appended i.count tags (tag_in i.depth i.tree) (tag_in i.depth i.tree) (tag_in i.depth i.tree) (λ s lt. refl) (λ s lt. c.if-stand.ensures.stand s refl));
+      marked = c.self.invariant.marked;
     }
 
 pub invariant_of-self-2 : goal.invariant_of-self-2
@@ -30,6 +31,7 @@ invariant_of-self-2 c =
           (ap (λ (n : ℕ). first_tags n (tag_in c.in_ok-depth.depth c.in_ok-tree.tree)) total
           ∙ first_appended i.count tags (tag_in i.depth i.tree) (tag_in c.in_ok-depth.depth c.in_ok-depth.tree) (tag_in c.in_ok-depth.depth c.in_ok-tree.tree) (λ s lt. c.in_ok-depth.ensures.same s (omega (arith, lt, c.self.invariant.room)))
           (λ s lt. c.in_ok-tree.ensures.put s (omega (arith, lt, total, c.in_ok-depth.ensures.room))));
+      marked = c.in_ok-tree.ensures.marked;
     }
 
 pub returns-clause-ok : goal.returns-clause-ok

@@ -15,6 +15,7 @@ invariant_of-result c =
       shallow = first_of (search rules, grind (arith, common_steps), omega arith);
       room = first_of (search rules, grind (arith, common_steps), omega arith);
       counted = omega (arith, words, given, c.in_ok-words.ensures.sum);
+      marked = c.in_ok-leaf.ensures.marked;
     }
 
 pub returns-then-count : goal.returns-then-count

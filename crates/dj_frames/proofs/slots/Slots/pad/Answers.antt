@@ -20,6 +20,7 @@ invariant_of-self c =
           (ap (λ (n : ℕ). first_tags n (tag_in c.in_ok-depth.depth c.in_ok-tree.tree)) total
           ∙ first_padded i.count missing (tag_in i.depth i.tree) (tag_in c.in_ok-depth.depth c.in_ok-depth.tree) (tag_in c.in_ok-depth.depth c.in_ok-tree.tree) (λ s lt. c.in_ok-depth.ensures.same s (omega (arith, lt, c.self.invariant.room)))
           (λ s lt. c.in_ok-tree.ensures.cut s (omega (arith, lt, total, c.in_ok-depth.ensures.room))));
+      marked = c.in_ok-tree.ensures.marked;
     }
 
 pub returns-clause-ok : goal.returns-clause-ok

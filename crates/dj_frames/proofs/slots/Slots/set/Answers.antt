@@ -33,6 +33,7 @@ invariant_of-self c =
       room = c.self.invariant.room;
       counted = words_set i.words c.in_ok-words.words i.count c.args.slot at (first_tags i.count now) c.get.result.now c.args.tag within c.get.ensures.tag c.self.invariant.counted (omega arith)
           (first_set i.count c.args.slot c.args.tag at now within (λ s lt. c.in_ok-self-inside.ensures.put s (omega (arith, lt, c.self.invariant.room)) ∙ ap (λ (tags : List Tag). over c.args.slot tags at s) c.from_ref.ensures.value));
+      marked = c.in_ok-self-inside.ensures.marked;
     }
 
 pub returns-clause-ok : goal.returns-clause-ok

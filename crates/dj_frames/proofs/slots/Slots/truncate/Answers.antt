@@ -32,6 +32,7 @@ invariant_of-self c =
       shallow = c.self.invariant.shallow;
       room = omega (arith, shorter, c.self.invariant.room);
       counted = omega (arith, c.words_between-cut.ensures.words shorter, c.self.invariant.counted);
+      marked = c.self.invariant.marked;
     }
 
 pub returns-then-len : goal.returns-then-len

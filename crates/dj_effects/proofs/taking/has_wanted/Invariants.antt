@@ -1,7 +1,0 @@
-use Rattle.dj_frames.specs.Frames.{view_tags}
-use Rattle.dj_effects.specs.Doing.{view_wants}
-use Rattle.dj_effects.proofs.Wanting.{AreMet}
-use Rattle.dj_effects.proofs.taking.has_wanted.Given as goal
-
-abbrev pub invariant-loop-depth : goal.invariant-loop-depth
-invariant-loop-depth g l = AreMet (g.G.Goes.relation l.goes) (view_wants l.wants) (view_tags l.stack) l.depth

@@ -1,5 +1,0 @@
-use Rattle.dj_frames.proofs.TableReading.{chopped_tags}
-use Rattle.dj_frames.proofs.follow.change_locals.Goals as goal
-
-pub returns-in-Chops-clause-changed : goal.returns-in-Chops-clause-changed
-returns-in-Chops-clause-changed c = rw c.in-Chops.is (chopped_tags c.args.locals.now c.chop.new.self c.in-Chops.count c.chop.result c.chop.ensures.fewer)
