@@ -1,0 +1,2 @@
+-- What a run by blocks is.
+pub mod Blocks

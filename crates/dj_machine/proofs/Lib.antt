@@ -1,0 +1,9 @@
+pub mod Taking
+pub mod Binding
+pub mod SlotLemmas
+pub mod IntLemmas
+pub mod StartLemmas
+pub mod HandlerLemmas
+pub mod Superclasses
+pub mod StepLemmas
+pub mod RunLemmas
