@@ -1,0 +1,9 @@
+pub mod TypeLemmas
+pub mod VisibleLemmas
+pub mod ListLemmas
+pub mod HeldLemmas
+pub mod ChosenLemmas
+pub mod WalkLemmas
+pub mod FieldLemmas
+pub mod TargetLemmas
+pub mod ExpLemmas
