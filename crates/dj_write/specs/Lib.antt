@@ -1,0 +1,3 @@
+-- What the public contracts rest on, in reading order.
+pub mod Appends
+pub mod Files

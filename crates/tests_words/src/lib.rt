@@ -1,0 +1,9 @@
+//! Tests of `dj_words`, `dj_write` and `dj_make`: command lines to the orders that they give, or to what is wrong with them, and made class files by their bytes and as they are read back.
+//! It stands on those crates, on `dj_class` to read what is made, and on `sha1` to compare it.
+//! No layer stands above it.
+#![tactic(auto)]
+
+#[cfg(test)]
+mod made;
+#[cfg(test)]
+mod words;
