@@ -1,5 +1,5 @@
 -- What is found of a method, by its code in the world.
-use Rattle.std.proofs.Common.{◌≡◌, ℕ, List, None, subst}
+use Rattle.std.proofs.Common.{ℕ, List, refl, subst}
 use Rattle.dj_class.specs.Described.{ClassOf, MethodOf}
 use Rattle.dj_world.specs.Worlds.{WorldOf}
 use Rattle.dj_syntax.specs.Trees.{Exp}
@@ -7,7 +7,7 @@ use Rattle.dj_syntax.specs.WellFormed.{IsWellFormedExp}
 use Rattle.dj_code.specs.MethodCode.{Code}
 use Rattle.dj_code.specs.ReadCode.{SpellsCode}
 use Rattle.dj_code.proofs.CodeIsOne.{one_code}
-use Rattle.dj_straight.specs.StraightMethod.{IsStraightMethod, IsNotYet, no_code}
+use Rattle.dj_straight.specs.StraightMethod.{IsStraightMethod, IsNotYet}
 use Rattle.dj_cli.specs.Output.{IsVerified, IsNotYetMethod}
 use Rattle.dj_cli.specs.Methods.{IsPrintable}
 
@@ -21,8 +21,4 @@ module _ (world : WorldOf) (class : ClassOf) (before : List MethodOf) (method : 
     finds_straight exp straight fits = record { straight = straight; verified = verified_code straight.code straight.spelled; fits = fits }
 
     pub finds_not_yet : (pc : ℕ) → IsNotYet class before method pc → IsNotYetMethod world class before method pc
-    finds_not_yet pc not_yet = record { not_yet = not_yet; verified = verified_code }
-
-  -- a method without code
-  pub finds_no_code : method.code ≡ None → IsNotYetMethod world class before method 0
-  finds_no_code none = record { not_yet = no_code none; verified = λ code spelled. let some = spelled.has.body in absurd cc }
+    finds_not_yet pc not_yet = record { some = rw spelled.has.body refl; not_yet = not_yet; verified = verified_code }

@@ -1,5 +1,6 @@
-pub mod ClassTextLemmas
 pub mod FindingLemmas
+pub mod FieldsLemmas
+pub mod FilesLemmas
 pub mod MethodsLemmas
 pub mod PiecesLemmas
 pub mod TellingLemmas

@@ -1,24 +1,64 @@
 -- What is found of one method more.
-use Rattle.std.proofs.Common.{◌≡◌, ℕ, ◌<◌, List, [], ◌∷◌, ◌++◌, length, get_or, map, None, refl, sym, ap, ◌∙◌, subst, append_assoc, append-nil, All, ◌⊎◌, false}
-use Rattle.std.specs.List.{AllByRecursion}
-use Rattle.std.proofs.lemmas.List.{get_or-map, length-map}
+use Rattle.std.proofs.Common.{◌≡◌, ℕ, Bool, List, [], ◌∷◌, ◌++◌, Option, Some, None, length, refl, suc, sym, ap, ◌∙◌, subst, append_assoc, append-nil, arith}
+use Rattle.std.specs.Prelude.{IfSome}
+use Rattle.std.proofs.lemmas.List.{length-map, map_push}
 use Rattle.dj_class.specs.Described.{ClassOf, MethodOf}
 use Rattle.dj_world.specs.Worlds.{WorldOf}
-use Rattle.dj_syntax.specs.Trees.{Exp, Body, MethodText}
-use Rattle.dj_syntax.specs.WellFormed.{IsWellFormedMethod}
+use Rattle.dj_syntax.specs.Trees.{Exp, Body}
+use Rattle.dj_syntax.specs.UnitText.{is_interface}
+use Rattle.dj_syntax.specs.WellFormed.{IsWellFormedExp, HasMethodName}
+use Rattle.dj_syntax.proofs.MethodNames.{identifier_is_no_method_keyword, IsMethodDescriptor-ints}
+use Rattle.dj_names.specs.Headers.{Name}
+use Rattle.dj_names.specs.Identifiers.{IsIdentifier}
 use Rattle.dj_instructions.specs.declared.kinds.BadKind.{BadKind}
-use Rattle.dj_straight.specs.StraightMethod.{IsBodyOf}
+use Rattle.dj_causes.specs.declared.cause.Cause.{Cause}
+use Rattle.dj_class_text.specs.Formed.{FitsBody, FitBodies}
+use Rattle.dj_class_text.specs.Methods.{bare_method, method_text}
+use Rattle.dj_class_text.proofs.FlagLemmas.{method_flags_kept}
+use Rattle.dj_straight.specs.StraightMethod.{IsStraightMethod, IsBodyOf}
 use Rattle.dj_straight_shows.proofs.StraightShows.{straight_methods_show}
-use Rattle.dj_unit.specs.ClassText.{method_text, printed_methods}
 use Rattle.dj_verify.specs.declared.rule.Rule.{Rule}
-use Rattle.dj_report.specs.Report.{shown_method, bad_tail, unverified_tail, not_yet_tail}
-use Rattle.dj_cli.specs.Output.{Verdict, Prints, Bad, Unverified, NotYet, PrintsMethod, IsBadMethod, IsUnverifiedMethod, IsNotYetMethod, IsVerdict, AreVerdicts, body_of, bodies_of, method_line, method_lines}
+use Rattle.dj_report.specs.Report.{shown_method, bad_tail, unverified_tail, not_yet_tail, refused_method_tail}
+use Rattle.dj_cli.specs.Output.{Verdict, Prints, Bare, Refused, Bad, Unverified, NotYet, PrintsMethod, IsBareMethod, IsRefusedMethod, IsBadMethod, IsUnverifiedMethod, IsNotYetMethod, IsVerdict, AreVerdicts, body_of, method_line, method_lines}
 use Rattle.dj_cli.specs.Methods.{AreJudged, IsLineOf, IsPrintable, IsPrintOf}
-use Rattle.dj_cli.proofs.ClassTextLemmas.{method_well_formed}
 
-AllByRecursion-push : {A : Type 0} (P : A → Type 0) (front : List A) (last : A) → AllByRecursion P front → P last → AllByRecursion P (front ++ last ∷ [])
-AllByRecursion-push P [] last all this = (this, tt)
-AllByRecursion-push P (first ∷ front) last all this = (all.0, AllByRecursion-push P front last all.1 this)
+-- ---- bodies
+
+-- an identifier is a method's name
+has_name : (interface : Bool) (method : MethodOf) (body : Body) → IsIdentifier method.name → HasMethodName (method_text interface method (Some body))
+has_name interface method body identifier =
+    let plain = identifier_is_no_method_keyword method.name identifier in
+    rw (plain.0, plain.1) identifier
+
+-- the body of a straight method fits it
+straight_fits : (class : ClassOf) (before : List MethodOf) (method : MethodOf) (exp : Exp) (body : Body) → IsStraightMethod class before method exp → IsWellFormedExp exp → IsBodyOf class method exp body
+    → FitsBody (is_interface class.flags) class.this_class method body
+straight_fits class before method exp body straight fits of_method = λ helper rethrows. record {
+  name = has_name (is_interface class.flags) method body straight.candidate.name;
+  descriptor = rw straight.candidate.descriptor (IsMethodDescriptor-ints straight.parameters);
+  thrown = rw straight.candidate.thrown tt;
+  flags = method_flags_kept (is_interface class.flags) (bare_method method (Some body));
+  body = record {
+    head = record {
+      class = of_method.class;
+      flags = of_method.flags;
+      name = of_method.name;
+      descriptor = of_method.descriptor;
+      thrown = of_method.thrown;
+    };
+    statements = rw of_method.returns (fits, tt);
+  };
+}
+
+-- one body more fits
+fit-push : (interface : Bool) (owner : Name) (methods : List MethodOf) (bodies : List (Option Body)) (method : MethodOf) (body : Option Body) → length methods ≡ length bodies → FitBodies interface owner methods bodies → IfSome body (FitsBody interface owner method)
+    → FitBodies interface owner (methods ++ method ∷ []) (bodies ++ body ∷ [])
+fit-push interface owner [] [] method None number fit this = tt
+fit-push interface owner [] [] method (Some body) number fit this = (this, tt)
+fit-push interface owner [] (other ∷ bodies) method body number fit this = absurd (omega (arith, number))
+fit-push interface owner (first ∷ methods) [] method body number fit this = absurd (omega (arith, number))
+fit-push interface owner (first ∷ methods) (None ∷ bodies) method body number fit this = fit-push interface owner methods bodies method body (omega (arith, number)) fit this
+fit-push interface owner (first ∷ methods) (Some one ∷ bodies) method body number fit this = (fit.0, fit-push interface owner methods bodies method body (omega (arith, number)) fit.1 this)
 
 -- ---- verdicts
 
@@ -34,20 +74,12 @@ module _ (world : WorldOf) (class : ClassOf) where
       let here = subst (λ these. IsVerdict world class these method verdict) (sym (append_assoc before (first ∷ []) methods)) this in
       (each.0, verdicts-more (before ++ first ∷ []) methods verdicts method verdict each.1 here)
 
-  -- the methods that are printed, with a verdict more
-  printed-more : (before methods : List MethodOf) (verdicts : List Verdict) (method : MethodOf) (verdict : Verdict) → AreVerdicts world class before methods verdicts
-      → printed_methods (methods ++ method ∷ []) (bodies_of (verdicts ++ verdict ∷ [])) ≡ printed_methods methods (bodies_of verdicts) ++ printed_methods (method ∷ []) (bodies_of (verdict ∷ []))
-  printed-more before [] [] method verdict each = refl
-  printed-more before [] (other ∷ verdicts) method verdict each = absurd each
-  printed-more before (other ∷ methods) [] method verdict each = absurd each
-  printed-more before (first ∷ methods) (Bad kind pc ∷ verdicts) method verdict each =
-      printed-more (before ++ first ∷ []) methods verdicts method verdict each.1
-  printed-more before (first ∷ methods) (Unverified rule pc ∷ verdicts) method verdict each =
-      printed-more (before ++ first ∷ []) methods verdicts method verdict each.1
-  printed-more before (first ∷ methods) (NotYet pc ∷ verdicts) method verdict each =
-      printed-more (before ++ first ∷ []) methods verdicts method verdict each.1
-  printed-more before (first ∷ methods) (Prints body ∷ verdicts) method verdict each =
-      ap (λ texts. method_text first body ∷ texts) (printed-more (before ++ first ∷ []) methods verdicts method verdict each.1)
+  -- as many verdicts as methods
+  verdicts-number : (before methods : List MethodOf) (verdicts : List Verdict) → AreVerdicts world class before methods verdicts → length methods ≡ length verdicts
+  verdicts-number before [] [] each = refl
+  verdicts-number before [] (other ∷ verdicts) each = absurd each
+  verdicts-number before (other ∷ methods) [] each = absurd each
+  verdicts-number before (first ∷ methods) (one ∷ verdicts) each = ap suc (verdicts-number (before ++ first ∷ []) methods verdicts each.1)
 
   -- the lines, with a verdict more
   lines-more : (before methods : List MethodOf) (verdicts : List Verdict) (method : MethodOf) (verdict : Verdict) → AreVerdicts world class before methods verdicts
@@ -71,58 +103,60 @@ module _ (world : WorldOf) (class : ClassOf) where
 
   -- ---- methods judged
 
+  -- as many bodies as methods
+  pub judged_number : (methods : List MethodOf) (bodies : List (Option Body)) (lines : List ℕ) → AreJudged world class methods bodies lines → length methods ≡ length bodies
+  judged_number methods bodies lines before =
+      verdicts-number [] methods before.verdicts before.judged ∙ sym (length-map before.verdicts body_of) ∙ ap length (sym before.bodies_are)
+
   -- no method
   pub judged_none : AreJudged world class [] [] []
-  judged_none = record { verdicts = []; judged = tt; texts_are = refl; lines_are = refl; well_formed = tt }
+  judged_none = record { verdicts = []; judged = tt; bodies_are = refl; lines_are = refl; fit = tt }
 
-  -- and one that is printed
-  pub judged_text : (methods : List MethodOf) (method : MethodOf) (texts : List MethodText) (text : MethodText) (lines : List ℕ) → (method.flags ≡ 0x8) ⊎ (method.flags ≡ 0x9) → AreJudged world class methods texts lines
-      → IsPrintOf world class methods method text → AreJudged world class (methods ++ method ∷ []) (texts ++ text ∷ []) lines
-  judged_text methods method texts text lines flags before print =
-      let of_method = print.text_is in
-      let verdict : Verdict = Prints of_method.body in
-      let prints : IsVerdict world class methods method verdict = prints_straight methods method print.exp of_method.body print.printable of_method.of_method in
-      let well = method_well_formed class methods method print.exp of_method.body flags print.printable.straight print.printable.fits of_method.of_method in
+  -- and one with this verdict
+  judged_more : (methods : List MethodOf) (method : MethodOf) (bodies : List (Option Body)) (lines : List ℕ) (verdict : Verdict) → AreJudged world class methods bodies lines → IsVerdict world class methods method verdict
+      → IfSome (body_of verdict) (FitsBody (is_interface class.flags) class.this_class method) → AreJudged world class (methods ++ method ∷ []) (bodies ++ body_of verdict ∷ []) (lines ++ method_line class method verdict)
+  judged_more methods method bodies lines verdict before is_verdict fits =
+      let number : length methods ≡ length bodies =
+      verdicts-number [] methods before.verdicts before.judged ∙ sym (length-map before.verdicts body_of) ∙ ap length (sym before.bodies_are) in
       record {
         verdicts = before.verdicts ++ verdict ∷ [];
-        judged = verdicts-more [] methods before.verdicts method verdict before.judged prints;
-        texts_are = rw (before.texts_are, of_method.text_is) (sym (printed-more [] methods before.verdicts method verdict before.judged));
-        lines_are = before.lines_are ∙ sym (append-nil (method_lines class methods before.verdicts)) ∙ sym (lines-more [] methods before.verdicts method verdict before.judged);
-        well_formed = rw of_method.text_is (AllByRecursion-push (IsWellFormedMethod false false class.this_class) texts (method_text method of_method.body) before.well_formed well);
+        judged = verdicts-more [] methods before.verdicts method verdict before.judged is_verdict;
+        bodies_are = ap (λ these. these ++ body_of verdict ∷ []) before.bodies_are ∙ sym (map_push body_of before.verdicts verdict);
+        lines_are = ap (λ these. these ++ method_line class method verdict) before.lines_are ∙ sym (lines-more [] methods before.verdicts method verdict before.judged);
+        fit = fit-push (is_interface class.flags) class.this_class methods bodies method (body_of verdict) number before.fit fits;
       }
 
-  -- a verdict without a body prints nothing
-  none_printed : (method : MethodOf) (verdict : Verdict) → body_of verdict ≡ None → printed_methods (method ∷ []) (bodies_of (verdict ∷ [])) ≡ []
-  none_printed method (Prints body) none = absurd (cc)
-  none_printed method (Bad kind pc) none = refl
-  none_printed method (Unverified rule pc) none = refl
-  none_printed method (NotYet pc) none = refl
+  module _ (methods : List MethodOf) (method : MethodOf) (bodies : List (Option Body)) (lines : List ℕ) (before : AreJudged world class methods bodies lines) where
+    -- and one that is printed with a body
+    pub judged_body : (body : Body) → IsPrintOf world class methods method body → AreJudged world class (methods ++ method ∷ []) (bodies ++ Some body ∷ []) lines
+    judged_body body print =
+        let prints = prints_straight methods method print.exp body print.printable print.of_method in
+        let fits = straight_fits class methods method print.exp body print.printable.straight print.printable.fits print.of_method in
+        subst (AreJudged world class (methods ++ method ∷ []) (bodies ++ Some body ∷ [])) (append-nil lines) (judged_more methods method bodies lines (Prints body) before prints fits)
 
-  -- and one that isn't printed
-  pub judged_line : (methods : List MethodOf) (method : MethodOf) (tail : List ℕ) (texts : List MethodText) (lines : List ℕ) → AreJudged world class methods texts lines → IsLineOf world class methods method tail
-      → AreJudged world class (methods ++ method ∷ []) texts (lines ++ (shown_method class.this_class method.name method.descriptor ++ tail))
-  judged_line methods method tail texts lines before line =
-      let verdict = line.verdict in
-      record {
-        verdicts = before.verdicts ++ verdict ∷ [];
-        judged = verdicts-more [] methods before.verdicts method verdict before.judged line.is_verdict;
-        texts_are = before.texts_are ∙ sym (append-nil (printed_methods methods (bodies_of before.verdicts))) ∙ ap (λ these. printed_methods methods (bodies_of before.verdicts) ++ these) (sym (none_printed method verdict line.no_body)) ∙ sym (printed-more [] methods before.verdicts method verdict before.judged);
-        lines_are = ap (λ these. these ++ (shown_method class.this_class method.name method.descriptor ++ tail)) before.lines_are ∙ ap (λ these. method_lines class methods before.verdicts ++ these) (sym line.line_is) ∙ sym (lines-more [] methods before.verdicts method verdict before.judged);
-        well_formed = before.well_formed;
-      }
+    -- and one that is printed without
+    pub judged_bare : IsBareMethod world class (length methods) method → AreJudged world class (methods ++ method ∷ []) (bodies ++ None ∷ []) lines
+    judged_bare bare =
+        subst (AreJudged world class (methods ++ method ∷ []) (bodies ++ None ∷ [])) (append-nil lines) (judged_more methods method bodies lines Bare before bare tt)
+
+    -- and one that isn't printed
+    pub judged_line : (tail : List ℕ) → IsLineOf world class methods method tail → AreJudged world class (methods ++ method ∷ []) (bodies ++ None ∷ []) (lines ++ (shown_method class.this_class method.name method.descriptor ++ tail))
+    judged_line tail line =
+        subst (λ these. AreJudged world class (methods ++ method ∷ []) (bodies ++ None ∷ []) (lines ++ these)) line.line_is
+        (subst (λ body. AreJudged world class (methods ++ method ∷ []) (bodies ++ body ∷ []) (lines ++ method_line class method line.verdict)) line.no_body
+        (judged_more methods method bodies lines line.verdict before line.is_verdict (subst (λ body. IfSome body (FitsBody (is_interface class.flags) class.this_class method)) (sym line.no_body) tt)))
 
   -- ---- the ends of lines
 
-  pub bad_line : (before : List MethodOf) (method : MethodOf) (kind : BadKind) (pc : ℕ) (tail : List ℕ) → IsBadMethod class method kind pc → tail ≡ bad_tail kind pc → IsLineOf world class before method tail
-  bad_line before method kind pc tail bad is = record { verdict = Bad kind pc; is_verdict = bad; no_body = refl; line_is = rw is refl }
+  module _ (before : List MethodOf) (method : MethodOf) (tail : List ℕ) where
+    pub refused_line : (cause : Cause) → IsRefusedMethod world class (length before) method cause → tail ≡ refused_method_tail cause → IsLineOf world class before method tail
+    refused_line cause refused is = record { verdict = Refused cause; is_verdict = refused; no_body = refl; line_is = rw is refl }
 
-  pub unverified_line : (before : List MethodOf) (method : MethodOf) (rule : Rule) (pc : ℕ) (tail : List ℕ) → IsUnverifiedMethod world class method rule pc → tail ≡ unverified_tail rule pc → IsLineOf world class before method tail
-  unverified_line before method rule pc tail unverified is = record { verdict = Unverified rule pc; is_verdict = unverified; no_body = refl; line_is = rw is refl }
+    pub bad_line : (kind : BadKind) (pc : ℕ) → IsBadMethod class method kind pc → tail ≡ bad_tail kind pc → IsLineOf world class before method tail
+    bad_line kind pc bad is = record { verdict = Bad kind pc; is_verdict = bad; no_body = refl; line_is = rw is refl }
 
-  pub not_yet_line : (before : List MethodOf) (method : MethodOf) (pc : ℕ) (tail : List ℕ) → IsNotYetMethod world class before method pc → tail ≡ not_yet_tail pc → IsLineOf world class before method tail
-  not_yet_line before method pc tail not_yet is = record { verdict = NotYet pc; is_verdict = not_yet; no_body = refl; line_is = rw is refl }
+    pub unverified_line : (rule : Rule) (pc : ℕ) → IsUnverifiedMethod world class method rule pc → tail ≡ unverified_tail rule pc → IsLineOf world class before method tail
+    unverified_line rule pc unverified is = record { verdict = Unverified rule pc; is_verdict = unverified; no_body = refl; line_is = rw is refl }
 
--- a fact of each item, seen by a function, at one place
-pub all_at : {X Y : Type 0} (f : X → Y) (P : Y → Type 0) (items : List X) (i : ℕ) (item : X) → All P (map f items) → i < length items → item ≡ get_or items i item → P (f item)
-all_at f P items i item all inside is =
-    subst P (get_or-map f items i item (f item) inside ∙ ap f (sym is)) (all i (f item) (rw length-map inside))
+    pub not_yet_line : (pc : ℕ) → IsNotYetMethod world class before method pc → tail ≡ not_yet_tail pc → IsLineOf world class before method tail
+    not_yet_line pc not_yet is = record { verdict = NotYet pc; is_verdict = not_yet; no_body = refl; line_is = rw is refl }

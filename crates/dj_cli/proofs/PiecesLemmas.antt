@@ -1,30 +1,41 @@
--- The unit of a class whose methods are judged is well formed, and with their lines it is the class's piece.
-use Rattle.std.proofs.Common.{◌≡◌, ◌≢◌, ℕ, List, ◌++◌, Option, refl, All}
+-- The unit of a class that no cause refuses is well formed, and with the lines on its members it is the class's piece.
+use Rattle.std.proofs.Common.{ℕ, List, ◌++◌, Option, refl, subst}
 use Rattle.dj_class.specs.Described.{ClassOf}
 use Rattle.dj_world.specs.Worlds.{WorldOf}
-use Rattle.dj_syntax.specs.Trees.{Body, MethodText, CompilationUnit}
+use Rattle.dj_syntax.specs.Trees.{Body, CompilationUnit}
 use Rattle.dj_syntax.specs.UnitText.{unit_text}
 use Rattle.dj_syntax.specs.WellFormed.{IsWellFormed}
 use Rattle.dj_grammar.proofs.OneText.{units_have_one_text}
-use Rattle.dj_unit.specs.ClassText.{IsClassText, file_line, printed_methods}
-use Rattle.dj_unit.specs.ClassPart.{IsClassPart}
-use Rattle.dj_cli.specs.Output.{PrintsClass, bodies_of}
-use Rattle.dj_cli.specs.Methods.{AreJudged}
-use Rattle.dj_cli.proofs.ClassTextLemmas.{unit_well_formed}
+use Rattle.dj_print.specs.Spelled.{IsAsciiName}
+use Rattle.dj_print.proofs.NamesAreAscii.{ascii_qualified}
+use Rattle.dj_causes.specs.declared.cause.ClassCause.{ClassCause}
+use Rattle.dj_causes.specs.ClassCauses.{HasClassCause}
+use Rattle.dj_class_text.specs.ClassText.{IsClassText}
+use Rattle.dj_class_text.specs.Formed.{IsFromFile}
+use Rattle.dj_class_text.proofs.FormedLemmas.{own_qualified, unit_formed}
+use Rattle.dj_cli.specs.Output.{PrintsClass, file_line}
+use Rattle.dj_cli.specs.Methods.{AreJudged, HaveLines}
 
-module _ (world : WorldOf) (class : ClassOf) (texts : List MethodText) (lines : List ℕ) (unit : CompilationUnit) (part : IsClassPart class) (judged : AreJudged world class class.methods texts lines) (made : (bodies : List (Option Body)) → texts ≡ printed_methods class.methods bodies → IsClassText class bodies unit) (simple : All (λ letter. letter ≢ 47) unit.name) where
-  pub well_formed : IsWellFormed unit
-  well_formed =
-      unit_well_formed class (bodies_of judged.verdicts) unit part.flags part.name (made (bodies_of judged.verdicts) judged.texts_are) simple (rw judged.texts_are at judged.well_formed)
+module _ (world : WorldOf) (class : ClassOf) (none : (cause : ClassCause) → ¬ HasClassCause world class cause) where
+  -- the class's name is of characters below 128
+  pub ascii_name : IsAsciiName class.this_class
+  ascii_name = ascii_qualified class.this_class (own_qualified world class none)
 
-  pub prints_class : PrintsClass world class (record { text = file_line class.this_class ++ unit_text unit; lines = lines })
-  prints_class = record {
-    verdicts = judged.verdicts;
-    judged = judged.judged;
-    unit = unit;
-    class_text = made (bodies_of judged.verdicts) judged.texts_are;
-    well_formed = well_formed;
-    one_reading = λ other formed same. units_have_one_text other unit formed well_formed same;
-    text_is = refl;
-    lines_are = judged.lines_are;
-  }
+  module _ (file : IsFromFile class) (bodies : List (Option Body)) (fields methods : List ℕ) (unit : CompilationUnit) (have : HaveLines world class class.fields fields) (judged : AreJudged world class class.methods bodies methods) (text : IsClassText world class bodies unit) where
+    pub well_formed : IsWellFormed unit
+    well_formed = unit_formed world class bodies unit text none file judged.fit
+
+    pub prints_class : PrintsClass world class (record { text = file_line class.this_class ++ unit_text unit; lines = fields ++ methods })
+    prints_class = record {
+      none = none;
+      causes = have.causes;
+      are_causes = have.are;
+      verdicts = judged.verdicts;
+      judged = judged.judged;
+      unit = unit;
+      class_text = subst (λ these. IsClassText world class these unit) judged.bodies_are text;
+      well_formed = well_formed;
+      one_reading = λ other formed same. units_have_one_text other unit formed well_formed same;
+      text_is = refl;
+      lines_are = rw (have.lines_are, judged.lines_are) refl;
+    }

@@ -1,13 +1,23 @@
 -- How a run ends: with a last line, or with what was told of files.
-use Rattle.std.proofs.Common.{ℕ, List, length, ◌≤◌, Option, Result, Ok, Err, OnErr, sym, subst, inl, inr}
-use Rattle.std.specs.Prelude.{IfSome, ⊤}
+use Rattle.std.proofs.Common.{refl, ◌++◌, [], append-nil, Some, None, ◌≡◌, ◌∙◌, ap, ℕ, List, length, map, Option, Result, Ok, Err, OnErr, String, sym, subst, inl, inr}
+use Rattle.std.specs.declared.alloc.Global.{Global}
+use Rattle.std.proofs.lemmas.List.{length-map}
+use Rattle.std.specs.Prelude.{⊤}
 use Rattle.std.specs.declared.alloc.AllocError.{AllocError}
-use Rattle.dj_report.specs.declared.status.UsageKind.{UsageKind}
+use Rattle.dj_words.specs.declared.order.UsageKind.{UsageKind}
 use Rattle.dj_report.specs.declared.status.Status.{Status}
 use Rattle.dj_report.specs.declared.status.Status.TheVariants.{Clean, Refused, Usage, ReadFault, TextFault, ReportFault, TooMuch}
 use Rattle.dj_report.specs.Status.{MatchEnd, OnClean, OnRefused, OnTextFault, OnReportFault}
 use Rattle.dj_world.specs.Worlds.{WorldOf}
-use Rattle.dj_load.specs.HeldFiles.{Files, FileIs, AreContents, MakesWorld, most_files}
+use Rattle.std.specs.String.{string_bytes}
+use Rattle.std.specs.Option.{option_map}
+use Rattle.dj_load.specs.declared.loading.OrderFiles.{OrderFiles}
+use Rattle.dj_load.specs.declared.reading.FoundFiles.{FoundFiles}
+use Rattle.std.specs.Option.{option_to_list}
+use Rattle.dj_load.specs.Loads.{AsksFront, asked_with}
+use Rattle.dj_load.proofs.LoadingLemmas.{are_listed, due_behind, paths_by}
+use Rattle.dj_load.specs.HeldFiles.{Files, Finds, MakesWorld, OfDue}
+use Rattle.dj_load.specs.Loading.{AreLoaded, contents_of, finds_of, paths_of}
 use Rattle.dj_cli.specs.Output.{OfFiles}
 use Rattle.dj_cli.specs.Run.{EndsSo}
 
@@ -16,14 +26,39 @@ pub ends-report : (ended status : Status) (put cut R : Type 0) → OnReportFault
 ends-report ended status put cut R at_status of_cut (inl ends) = subst (λ s. OnReportFault (Ok s) R) (sym ends.0) at_status
 ends-report ended status put cut R at_status of_cut (inr ends) = subst (λ s. OnReportFault (Ok s) R) (sym ends.0) (of_cut ends.1)
 
--- so much was told of files that were loaded and read
-pub of_files : (held : Option Files) (names contents : List (List ℕ)) (found : List FileIs) (world : WorldOf) (Told : List (List ℕ) → List FileIs → WorldOf → Type 0) → length names ≤ most_files
-    → IfSome held (λ files. AreContents files names contents) → MakesWorld contents found world → Told names found world → OfFiles held names Told
-of_files held names contents found world Told few are makes told = record {
-  found = found;
+-- so much was told of the files of an order, which were loaded and read
+pub of_files : {held : Option Files} {named : List (List ℕ)} {list : Option (List ℕ)} {asked_old asked_new : Option (List (List ℕ))} (order : OrderFiles) (found : FoundFiles) (world : WorldOf) (Told : List (List ℕ) → Finds → WorldOf → Type 0)
+    → AreLoaded held named list asked_old asked_new order → option_map string_bytes found.unread ≡ option_map string_bytes order.library.unread → map string_bytes found.paths.items ≡ paths_of order.library
+    → MakesWorld (contents_of order.named.items) (contents_of order.library.contents.items) (finds_of found) world → Told named (finds_of found) world → OfFiles held named list Told
+of_files order found world Told loaded unread paths makes told = record {
+  found = finds_of found;
   world = world;
-  setting = record { few = few; contents = contents; are = are; makes = makes };
+  setting = record {
+    few = rw paths loaded.few;
+    contents = contents_of order.named.items;
+    listed = loaded.listed;
+    library = contents_of order.library.contents.items;
+    are = rw paths loaded.are;
+    lists = rw (unread, paths) loaded.lists;
+    makes = makes;
+  };
   told = told;
+}
+
+-- as many paths are found as the list has
+pub as_many_paths : (found paths : List (String Global)) → map string_bytes found ≡ map string_bytes paths → length paths ≡ length found
+as_many_paths found paths same = sym (length-map paths string_bytes) ∙ ap length (sym same) ∙ length-map found string_bytes
+
+-- no name was asked: the first none of those that are due
+asked_zero : (asked : Option (List (List ℕ))) → asked ≡ asked_with asked []
+asked_zero None = refl
+asked_zero (Some names) = ap Some (sym (append-nil names))
+
+pub asks_none : (held : Option Files) (named : List (List ℕ)) (list : Option (List ℕ)) (asked : Option (List (List ℕ))) → OfDue held named list (AsksFront asked asked)
+asks_none held named list asked = record {
+  due = named ++ (option_to_list list ++ paths_by held list);
+  is_due = due_behind held named list (paths_by held list) (are_listed held list);
+  holds = (0, asked_zero asked);
 }
 
 -- what an answer says, in other words

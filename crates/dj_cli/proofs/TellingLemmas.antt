@@ -1,6 +1,8 @@
 -- Pieces told one after another, and where telling them stops.
-use Rattle.std.proofs.Common.{◌≡◌, ◌≢◌, ℕ, ◌+◌, Bool, true, false, not, ◌==◌, ◌||◌, List, [], ◌∷◌, ◌++◌, length, take, Option, Some, Ok, Err, refl, sym, ap, ◌∙◌, subst, append-nil, inl, inr}
-use Rattle.std.specs.Prelude.{MatchBool, slice_get}
+use Rattle.std.proofs.Common.{arith, ◌≡◌, ◌≢◌, ℕ, ◌+◌, Bool, true, false, not, ◌==◌, ◌||◌, List, [], ◌∷◌, ◌++◌, length, take, Option, Some, Ok, Err, refl, sym, ap, ◌∙◌, subst, append_assoc, append-nil, inl, inr}
+use Rattle.std.specs.Prelude.{◌<◌, get_or, map, MatchBool, slice_get}
+use Rattle.std.specs.Option.{option_map}
+use Rattle.std.proofs.lemmas.Option.{slice_get-map, slice_get-get_or}
 use Rattle.std.specs.Io.KnownBytes.{append_known}
 use Rattle.std.proofs.lemmas.List.{flat_map_more, length_push, nil_from_length}
 use Rattle.std.proofs.lemmas.Bool.Decides.{eqb_tells}
@@ -8,14 +10,26 @@ use Rattle.dj_outer.specs.declared.files.Failed.{Failed}
 use Rattle.dj_outer.specs.Sink.{Puts}
 use Rattle.dj_outer.proofs.PutsLemmas.{known-then, known-nothing}
 use Rattle.dj_names.specs.Shown.{show_units}
-use Rattle.dj_cli.specs.declared.methods.MethodLine.{MethodLine}
+use Rattle.dj_cli.specs.declared.endings.MemberLine.{MemberLine}
+use Rattle.dj_cli.specs.declared.endings.Subject.{Subject}
+use Rattle.dj_cli.specs.declared.endings.Subject.TheVariants as subject
+use Rattle.dj_causes.specs.declared.cause.ClassCause.{ClassCause}
+use Rattle.dj_causes.specs.declared.cause.ClassCause.TheVariants as cause
+use Rattle.dj_report.specs.Report.{RefusedClass, line_text}
 use Rattle.dj_cli.specs.declared.telling.TellStop.{TellStop}
 use Rattle.dj_cli.specs.declared.telling.TellStop.TheVariants.{Text, Report, Memory}
-use Rattle.dj_cli.specs.Output.{Piece, IsFilePiece, IsNext, none, more, text_of, lines_of, Grew, ToldFirst, ToldAll, ToldSome, ToldFront, Cut, InText, InLines}
-use Rattle.dj_load.specs.HeldFiles.{FileIs}
+use Rattle.dj_class.specs.Described.{ClassOf}
+use Rattle.dj_causes.specs.ClassCauses.{IsClassCause}
+use Rattle.dj_cli.specs.Pieces.{refused_piece}
+use Rattle.dj_cli.specs.Output.{Piece, PrintsClass, IsClassPiece, prints, refuses, IsFilePiece, IsLastPiece, IsNext, library_line, library_lines, none, more, text_of, lines_of, Grew, ToldFirst, ToldAll, ToldSome, ToldFront, Cut, InText, InLines}
+use Rattle.dj_load.specs.HeldFiles.{FileIs, Finds}
 use Rattle.dj_world.specs.Worlds.{WorldOf}
-use Rattle.dj_cli.specs.Methods.{line_bytes, lines_bytes}
+use Rattle.dj_cli.specs.Lines.{subject_bytes, line_bytes, lines_bytes}
 use Rattle.dj_cli.specs.Telling.{StoppedTelling, TellsPiece, CutsPiece, StopsPiece}
+
+-- the item at a place, seen by a function
+pub name_at : {X Y : Type 0} (f : X → Y) (xs : List X) (i : ℕ) (x : X) → i < length xs → x ≡ get_or xs i x → slice_get (map f xs) i ≡ Some (f x)
+name_at f xs i x lt is = slice_get-map f xs i ∙ ap (option_map f) (slice_get-get_or xs i x lt ∙ ap Some (sym is))
 
 -- ---- whether there is a line
 
@@ -65,9 +79,9 @@ grew-push pieces piece text_old text_new report_old report_new grew = record {
 
 -- ---- the pieces of files
 
-module _ (names : List (List ℕ)) (found : List FileIs) (world : WorldOf) where
+module _ (names : List (List ℕ)) (found : Finds) (world : WorldOf) where
   -- the next piece is that of the file at its place
-  next_is : (before : List Piece) (i : ℕ) (name : List ℕ) (file : FileIs) (piece : Piece) → length before ≡ i → slice_get names i ≡ Some name → slice_get found i ≡ Some file → IsFilePiece world name file piece → IsNext names found world before piece
+  next_is : (before : List Piece) (i : ℕ) (name : List ℕ) (file : FileIs) (piece : Piece) → length before ≡ i → slice_get names i ≡ Some name → slice_get found.named i ≡ Some file → IsFilePiece world name file piece → IsNext names found world before piece
   next_is before i name file piece number at_name at_file is = inl (rw (number, at_name, at_file) is)
 
   -- no piece was told
@@ -87,31 +101,30 @@ module _ (names : List (List ℕ)) (found : List FileIs) (world : WorldOf) where
       refused_is = rw (lines-push told.pieces piece) (refused_either refused one (lines_of told.pieces) piece.lines told.refused_is refused_is);
     }
 
-    module _ (name : List ℕ) (file : FileIs) (at_name : slice_get names i ≡ Some name) (at_file : slice_get found i ≡ Some file) where
-      -- the piece of the next file was told
-      pub told_more : (one : Bool) → TellsPiece (IsFilePiece world name file) one text_mid text_new report_mid report_new → ToldFirst (i + 1) (refused || one) text_old text_new report_old report_new names found world
-      told_more one this =
-          told_push this.piece one (next_is told.pieces i name file this.piece told.number at_name at_file this.is) this.text_taken this.report_taken this.refused_is
+    module _ (Is : Piece → Type 0) (is_next : (piece : Piece) → Is piece → IsNext names found world told.pieces piece) where
+      -- a piece was told, which is the next one
+      pub told_so : (one : Bool) → TellsPiece Is one text_mid text_new report_mid report_new → ToldFirst (i + 1) (refused || one) text_old text_new report_old report_new names found world
+      told_so one this = told_push this.piece one (is_next this.piece this.is) this.text_taken this.report_taken this.refused_is
 
-      -- the piece of the next file was cut off
-      told_front : (cut : Cut) → CutsPiece (IsFilePiece world name file) cut text_mid text_new report_mid report_new → ToldFront cut text_old text_new report_old report_new names found world
+      -- it was cut off
+      told_front : (cut : Cut) → CutsPiece Is cut text_mid text_new report_mid report_new → ToldFront cut text_old text_new report_old report_new names found world
       told_front cut this = record {
         pieces = told.pieces;
         are = told.are;
         next = this.piece;
-        is_next = next_is told.pieces i name file this.piece told.number at_name at_file this.is;
+        is_next = is_next this.piece this.is;
         text = this.text;
         lines = this.lines;
         front = this.front;
         grew = grew-by told.pieces this.text this.lines text_old text_mid text_new report_old report_mid report_new told.grew this.text_taken this.report_taken;
       }
 
-      -- telling stopped at the next file
-      pub stops_telling : (stop : TellStop) → StopsPiece (IsFilePiece world name file) stop text_mid text_new report_mid report_new
+      -- telling stopped at it
+      pub stops_so : (stop : TellStop) → StopsPiece Is stop text_mid text_new report_mid report_new
           → StoppedTelling stop (ToldFront InText text_old text_new report_old report_new names found world) (ToldFront InLines text_old text_new report_old report_new names found world) (ToldSome text_old text_new report_old report_new names found world)
-      stops_telling Text this = told_front InText this
-      stops_telling Report this = told_front InLines this
-      stops_telling (Memory error) this = (
+      stops_so Text this = told_front InText this
+      stops_so Report this = told_front InLines this
+      stops_so (Memory error) this = (
         i,
         refused,
         record {
@@ -123,13 +136,15 @@ module _ (names : List (List ℕ)) (found : List FileIs) (world : WorldOf) where
         },
       )
 
-  -- all files were told, and then the last piece, which is nothing
-  pub told_all : (refused : Bool) (text_old text_new report_old report_new : Option (List ℕ)) → ToldFirst (length names) refused text_old text_new report_old report_new names found world → ToldAll refused text_old text_new report_old report_new names found world
-  told_all refused text_old text_new report_old report_new told =
-      let nothing : Piece = record { text = []; lines = [] } in
-      let next : IsNext names found world told.pieces nothing = inr (told.number, record { no_text = refl; no_line = refl }) in
-      subst (λ flag. ToldAll flag text_old text_new report_old report_new names found world) (or-false refused)
-      (told_push (length names) refused text_old text_new text_new report_old report_new report_new told nothing false next (known-nothing text_new) (known-nothing report_new) refl)
+    module _ (name : List ℕ) (file : FileIs) (at_name : slice_get names i ≡ Some name) (at_file : slice_get found.named i ≡ Some file) where
+      -- the piece of the next file was told
+      pub told_more : (one : Bool) → TellsPiece (IsFilePiece world name file) one text_mid text_new report_mid report_new → ToldFirst (i + 1) (refused || one) text_old text_new report_old report_new names found world
+      told_more one this = told_so (IsFilePiece world name file) (λ piece is. next_is told.pieces i name file piece told.number at_name at_file is) one this
+
+      -- telling stopped at the next file
+      pub stops_telling : (stop : TellStop) → StopsPiece (IsFilePiece world name file) stop text_mid text_new report_mid report_new
+          → StoppedTelling stop (ToldFront InText text_old text_new report_old report_new names found world) (ToldFront InLines text_old text_new report_old report_new names found world) (ToldSome text_old text_new report_old report_new names found world)
+      stops_telling stop this = stops_so (IsFilePiece world name file) (λ piece is. next_is told.pieces i name file piece told.number at_name at_file is) stop this
 
 -- ---- the lines of one piece
 
@@ -144,22 +159,73 @@ back-some [] byte back = λ same. cc
 back-some (first ∷ front) byte back = λ same. cc
 
 -- one line more
-pub lines_bytes-push : (class : List ℕ) (lines : List MethodLine) (line : MethodLine) → lines_bytes class (lines ++ line ∷ []) ≡ lines_bytes class lines ++ line_bytes class line
+pub lines_bytes-push : (class : List ℕ) (lines : List MemberLine) (line : MemberLine) → lines_bytes class (lines ++ line ∷ []) ≡ lines_bytes class lines ++ line_bytes class line
 lines_bytes-push class lines line = sym (flat_map_more (line_bytes class) [] lines line)
 
--- lines have bytes
-lines-some : (class : List ℕ) (lines : List MethodLine) → lines ≢ [] → lines_bytes class lines ≢ []
-lines-some class [] some = λ nil. some refl
-lines-some class (line ∷ lines) some = λ nil.
-    back-some (show_units class) 46 [] (front-none _ _ (front-none _ _ (front-none _ _ (front-none _ _ nil))))
+-- what a line names has bytes
+subject-some : (class : List ℕ) (named : Subject) → subject_bytes class named ≢ []
+subject-some class (subject.Field field) = λ nil. back-some (show_units class) 46 [] (front-none _ _ (front-none _ _ (front-none _ _ nil)))
+subject-some class (subject.Method method) = λ nil. back-some (show_units class) 46 [] (front-none _ _ (front-none _ _ nil))
 
--- whether a piece has a line
-pub has-line : (class : List ℕ) (lines : List MethodLine) (empty : Bool) → empty ≡ (length lines == 0) → MatchBool (not empty) (lines_bytes class lines ≢ []) (lines_bytes class lines ≡ [])
+-- lines have bytes
+lines-some : (class : List ℕ) (lines : List MemberLine) → lines ≢ [] → lines_bytes class lines ≢ []
+lines-some class [] some = λ nil. some refl
+lines-some class (line ∷ lines) some = λ nil. subject-some class line.subject (front-none _ _ (front-none _ _ nil))
+
+-- whether there is a line
+has-line : (class : List ℕ) (lines : List MemberLine) (empty : Bool) → empty ≡ (length lines == 0) → MatchBool (not empty) (lines_bytes class lines ≢ []) (lines_bytes class lines ≡ [])
 has-line class lines empty is =
     elim (eqb_tells (length lines) 0) [
       | inl w ↦ subst (λ flag. MatchBool (not flag) (lines_bytes class lines ≢ []) (lines_bytes class lines ≡ [])) (sym (is ∙ w.0)) (ap (lines_bytes class) (nil_from_length lines w.1))
       | inr w ↦ subst (λ flag. MatchBool (not flag) (lines_bytes class lines ≢ []) (lines_bytes class lines ≡ [])) (sym (is ∙ w.0)) (lines-some class lines (λ nil. w.1 (ap length nil)))
     ]
+
+-- whether one of two lists has a line
+pub either-has-line : (class : List ℕ) (fields methods : List MemberLine) (no_field no_method : Bool) → no_field ≡ (length fields == 0) → no_method ≡ (length methods == 0)
+    → MatchBool (not no_field || not no_method) (lines_bytes class fields ++ lines_bytes class methods ≢ []) (lines_bytes class fields ++ lines_bytes class methods ≡ [])
+either-has-line class fields methods no_field no_method first second =
+    refused_either (not no_field) (not no_method) (lines_bytes class fields) (lines_bytes class methods) (has-line class fields no_field first) (has-line class methods no_method second)
+
+-- whether there are bytes
+pub told-lines : (lines : List ℕ) (empty : Bool) → empty ≡ (length lines == 0) → MatchBool (not empty) (lines ≢ []) (lines ≡ [])
+told-lines lines empty is =
+    elim (eqb_tells (length lines) 0) [
+      | inl w ↦ subst (λ flag. MatchBool (not flag) (lines ≢ []) (lines ≡ [])) (sym (is ∙ w.0)) (nil_from_length lines w.1)
+      | inr w ↦ subst (λ flag. MatchBool (not flag) (lines ≢ []) (lines ≡ [])) (sym (is ∙ w.0)) (λ nil. w.1 (ap length nil))
+    ]
+
+-- the line on a refused class has bytes
+pub refused-some : (class : List ℕ) (reason : ClassCause) → line_text (RefusedClass class reason) ≢ []
+refused-some class cause.Enum = back-some (show_units class) 32 _
+refused-some class cause.Annotation = back-some (show_units class) 32 _
+refused-some class cause.Package = back-some (show_units class) 32 _
+refused-some class cause.Root = back-some (show_units class) 32 _
+refused-some class (cause.Name name) = back-some (show_units class) 32 _
+refused-some class (cause.Constant name) = back-some (show_units class) 32 _
+
+-- ---- pieces of one kind are of another
+
+module _ (Is Also : Piece → Type 0) (also : (piece : Piece) → Is piece → Also piece) (text_old text_new report_old report_new : Option (List ℕ)) where
+  pub tells-as : (refused : Bool) → TellsPiece Is refused text_old text_new report_old report_new → TellsPiece Also refused text_old text_new report_old report_new
+  tells-as refused told = record { piece = told.piece; is = also told.piece told.is; text_taken = told.text_taken; report_taken = told.report_taken; refused_is = told.refused_is }
+
+  cuts-as : (cut : Cut) → CutsPiece Is cut text_old text_new report_old report_new → CutsPiece Also cut text_old text_new report_old report_new
+  cuts-as cut told = record { piece = told.piece; is = also told.piece told.is; text = told.text; lines = told.lines; front = told.front; text_taken = told.text_taken; report_taken = told.report_taken }
+
+  pub stops-as : (stop : TellStop) → StopsPiece Is stop text_old text_new report_old report_new → StopsPiece Also stop text_old text_new report_old report_new
+  stops-as Text told = cuts-as InText told
+  stops-as Report told = cuts-as InLines told
+  stops-as (Memory error) told = told
+
+-- ---- the lines on library files
+
+-- the line on one library file more
+pub library_lines-push : (paths : List (List ℕ)) (found : List FileIs) (path : List ℕ) (file : FileIs) → length found ≡ length paths → library_lines (paths ++ path ∷ []) (found ++ file ∷ []) ≡ library_lines paths found ++ library_line path file
+library_lines-push [] [] path file number = append-nil (library_line path file)
+library_lines-push [] (other ∷ found) path file number = absurd (omega (arith, number))
+library_lines-push (first ∷ paths) [] path file number = absurd (omega (arith, number))
+library_lines-push (first ∷ paths) (other ∷ found) path file number =
+    ap (λ rest. library_line first other ++ rest) (library_lines-push paths found path file (omega (arith, number))) ∙ sym (append_assoc (library_line first other) (library_lines paths found) (library_line path file))
 
 -- ---- a piece that is one line
 
@@ -185,3 +251,15 @@ module _ (Is : Piece → Type 0) (line : List ℕ) (is : Is (record { text = [];
     text_taken = known-nothing text;
     report_taken = puts.prefix.1;
   }
+
+-- ---- the pieces of classes
+
+module _ (world : WorldOf) (class : ClassOf) where
+  -- a piece that is this one, with which the class is printed
+  pub is_printed : (piece : Piece) → PrintsClass world class piece → (told : Piece) → told ≡ piece → IsClassPiece world class told
+  is_printed piece prints_it told same = subst (IsClassPiece world class) (sym same) (prints prints_it)
+
+  -- a piece that is the line with this cause
+  pub is_refused : (reason : ClassCause) → IsClassCause world class (Some reason) → (told : Piece) → told ≡ refused_piece class.this_class reason → IsClassPiece world class told
+  is_refused reason first told same =
+      subst (IsClassPiece world class) (sym same) (refuses (record { cause = reason; first = first; no_text = refl; line_is = refl }))

@@ -1,6 +1,7 @@
--- What the public contracts rest on, in reading order; from Methods on, what the contracts below them say.
+-- What the public contracts rest on, in reading order; from Lines on, what the contracts below them say.
 pub mod Output
 pub mod Program
+pub mod Lines
 pub mod Methods
 pub mod Pieces
 pub mod Telling

@@ -1,8 +1,8 @@
 -- What a run tells of the files of an order, in pieces, and how far it got: the headline. Each definition that takes a world speaks of the one that the files make.
-use Rattle.std.specs.Prelude.{◌≡◌, ◌≢◌, ◌⊎◌, ℕ, ◌+◌, Bool, List, [], ◌∷◌, ◌++◌, length, map, take, slice_get, Option, Some, None, IsSome, IsSomeAnd, MatchBool, ⊤}
+use Rattle.std.specs.Prelude.{◌≡◌, ◌≢◌, ◌⊎◌, ℕ, ◌+◌, Bool, List, [], ◌∷◌, ◌++◌, length, map, take, slice_get, Option, Some, None, IsSome, IsSomeAnd, MatchBool, ⊤, codes}
 use Rattle.std.specs.List.{flat_map}
 use Rattle.std.specs.Io.KnownBytes.{append_known}
-use Rattle.dj_class.specs.Described.{ClassOf, MethodOf}
+use Rattle.dj_class.specs.Described.{ClassOf, FieldOf, MethodOf}
 use Rattle.dj_class.specs.Views.{view_class}
 use Rattle.dj_world.specs.Worlds.{WorldOf}
 use Rattle.dj_syntax.specs.Trees.{Exp, Body, CompilationUnit}
@@ -17,11 +17,18 @@ use Rattle.dj_verify.specs.declared.rule.Rule.{Rule}
 use Rattle.dj_verify.specs.Table.{IsFrameTable, IsFirstViolation}
 use Rattle.dj_bytecode.specs.SameShows.{SameShows}
 use Rattle.dj_straight.specs.StraightMethod.{IsStraightMethod, IsNotYet, IsBodyOf}
-use Rattle.dj_unit.specs.ClassText.{IsClassText, file_line}
-use Rattle.dj_unit.specs.ClassPart.{IsClassPart}
+use Rattle.dj_causes.specs.declared.cause.Cause.{Cause}
+use Rattle.dj_causes.specs.declared.cause.ClassCause.{ClassCause}
+use Rattle.dj_causes.specs.declared.cause.FieldCause.{FieldCause}
+use Rattle.dj_causes.specs.BareCauses.{HasBareCause, IsBareCause}
+use Rattle.dj_causes.specs.ClassCauses.{HasClassCause, IsClassCause}
+use Rattle.dj_causes.specs.FieldCauses.{IsFieldCause}
+use Rattle.dj_class_text.specs.ClassText.{IsClassText}
 use Rattle.dj_report.specs.Report.{line_text}
 use Rattle.dj_report.specs.Report as report
-use Rattle.dj_load.specs.HeldFiles.{Files, FileIs, IsClass, IsClash, IsBroken, Setting}
+use Rattle.dj_world.specs.declared.fault.ClashKind.{ClashKind}
+use Rattle.dj_world.specs.declared.fault.ClashKind.TheVariants as clash
+use Rattle.dj_load.specs.HeldFiles.{Files, FileIs, Finds, IsClass, IsClash, IsBroken, Setting}
 
 -- what is told of one file, or behind the last one: a text, and then the lines of the report on it
 pub record Piece : Type 0 where
@@ -33,6 +40,8 @@ pub record Piece : Type 0 where
 -- what is found of a method, in the order in which a method is refused
 pub data Verdict : Type 0 where
   Prints : Body → Verdict
+  Bare : Verdict
+  Refused : Cause → Verdict
   Bad : BadKind → ℕ → Verdict
   Unverified : Rule → ℕ → Verdict
   NotYet : ℕ → Verdict
@@ -50,6 +59,16 @@ pub record PrintsMethod (world : WorldOf) (class : ClassOf) (before : List Metho
   pub of_method : IsBodyOf class method exp body
   pub shows : SameShows world.headers world.members straight.code body
 
+-- the method at a place has no code, and no cause: it is printed without a body
+pub record IsBareMethod (world : WorldOf) (class : ClassOf) (at : ℕ) (method : MethodOf) : Type 0 where
+  pub none : method.code ≡ None
+  pub free : (cause : Cause) → ¬ HasBareCause world class at cause
+
+-- the method at a place has no code, and this is its first cause
+pub record IsRefusedMethod (world : WorldOf) (class : ClassOf) (at : ℕ) (method : MethodOf) (cause : Cause) : Type 0 where
+  pub none : method.code ≡ None
+  pub first : IsBareCause world class at (Some cause)
+
 -- a method has code that is none, and this is its first fault
 pub record IsBadMethod (class : ClassOf) (method : MethodOf) (kind : BadKind) (pc : ℕ) : Type 0 where
   pub some : IsSome method.code
@@ -61,14 +80,17 @@ pub record IsUnverifiedMethod (world : WorldOf) (class : ClassOf) (method : Meth
   pub spelled : SpellsCode class method code
   pub first : IsFirstViolation (Laxly world.headers) world.headers code pc rule
 
--- a method isn't straight at this offset of its code, which is verified in the world where it has one
+-- a method isn't straight at this offset of its code, which is verified in the world
 pub record IsNotYetMethod (world : WorldOf) (class : ClassOf) (before : List MethodOf) (method : MethodOf) (pc : ℕ) : Type 0 where
+  pub some : IsSome method.code
   pub not_yet : IsNotYet class before method pc
   pub verified : (code : Code) → SpellsCode class method code → IsVerified world code
 
--- the verdict on a method of a class, those before it in the file given: it is printed, or its code is bad, or it isn't verified, or the method isn't straight at this offset of its code
+-- the verdict on a method of a class, those before it in the file given: it is printed, with a body or without, or it has no code and is refused, or its code is bad, or it isn't verified, or the method isn't straight at this offset of its code
 abbrev pub IsVerdict : WorldOf → ClassOf → List MethodOf → MethodOf → Verdict → Type 0
 IsVerdict world class before method (Prints body) = PrintsMethod world class before method body
+IsVerdict world class before method Bare = IsBareMethod world class (length before) method
+IsVerdict world class before method (Refused cause) = IsRefusedMethod world class (length before) method cause
 IsVerdict world class before method (Bad kind pc) = IsBadMethod class method kind pc
 IsVerdict world class before method (Unverified rule pc) = IsUnverifiedMethod world class method rule pc
 IsVerdict world class before method (NotYet pc) = IsNotYetMethod world class before method pc
@@ -84,6 +106,8 @@ AreVerdicts world class before (method ∷ methods) (verdict ∷ verdicts) =
 -- the body that a method is printed with, where it is
 abbrev pub body_of : Verdict → Option Body
 body_of (Prints body) = Some body
+body_of Bare = None
+body_of (Refused cause) = None
 body_of (Bad kind pc) = None
 body_of (Unverified rule pc) = None
 body_of (NotYet pc) = None
@@ -95,6 +119,8 @@ bodies_of verdicts = map body_of verdicts
 -- the line on a method, none where it is printed
 abbrev pub method_line : ClassOf → MethodOf → Verdict → List ℕ
 method_line class method (Prints body) = []
+method_line class method Bare = []
+method_line class method (Refused cause) = line_text (report.RefusedMethod class.this_class method.name method.descriptor cause)
 method_line class method (Bad kind pc) = line_text (report.BadMethod class.this_class method.name method.descriptor kind pc)
 method_line class method (Unverified rule pc) = line_text (report.UnverifiedMethod class.this_class method.name method.descriptor rule pc)
 method_line class method (NotYet pc) = line_text (report.NotYetMethod class.this_class method.name method.descriptor pc)
@@ -106,23 +132,58 @@ method_lines class (method ∷ methods) [] = []
 method_lines class (method ∷ methods) (verdict ∷ verdicts) =
     method_line class method verdict ++ method_lines class methods verdicts
 
+-- ---- a field
+
+-- the first cause of each field from a place on, or that it has none, in file order
+abbrev pub AreFieldCauses : WorldOf → ClassOf → ℕ → List FieldOf → List (Option FieldCause) → Type 0
+AreFieldCauses world class at [] [] = ⊤
+AreFieldCauses world class at [] (cause ∷ causes) = ⊥
+AreFieldCauses world class at (field ∷ fields) [] = ⊥
+AreFieldCauses world class at (field ∷ fields) (cause ∷ causes) =
+    IsFieldCause world class at cause × AreFieldCauses world class (at + 1) fields causes
+
+-- the line on a field, none where it is printed
+abbrev pub field_line : ClassOf → FieldOf → Option FieldCause → List ℕ
+field_line class field None = []
+field_line class field (Some cause) = line_text (report.RefusedField class.this_class field.name field.descriptor cause)
+
+-- the lines on fields, in file order
+abbrev pub field_lines : ClassOf → List FieldOf → List (Option FieldCause) → List ℕ
+field_lines class [] causes = []
+field_lines class (field ∷ fields) [] = []
+field_lines class (field ∷ fields) (cause ∷ causes) = field_line class field cause ++ field_lines class fields causes
+
 -- ---- a file
 
--- a class is printed with exactly its straight methods that are verified: its unit is well formed, no other well formed unit has its text, and each other method has its line
+-- the line that names the file in which a class's text belongs
+abbrev pub file_line : List ℕ → List ℕ
+file_line class = codes "// " ++ class ++ codes ".java" ++ 10 ∷ []
+
+-- a class is printed that no cause refuses: with exactly its fields that have no cause, its methods without code that have none, and its straight methods that are verified. Its unit is well formed, no other well formed unit has its text, and each other field has its line, and behind them each other method
 pub record PrintsClass (world : WorldOf) (class : ClassOf) (piece : Piece) : Type 0 where
+  pub none : (cause : ClassCause) → ¬ HasClassCause world class cause
+  pub causes : List (Option FieldCause)
+  pub are_causes : AreFieldCauses world class 0 class.fields causes
   pub verdicts : List Verdict
   pub judged : AreVerdicts world class [] class.methods verdicts
   pub unit : CompilationUnit
-  pub class_text : IsClassText class (bodies_of verdicts) unit
+  pub class_text : IsClassText world class (bodies_of verdicts) unit
   pub well_formed : IsWellFormed unit
   pub one_reading : (other : CompilationUnit) → IsWellFormed other → unit_text other ≡ unit_text unit → other ≡ unit
   pub text_is : piece.text ≡ file_line class.this_class ++ unit_text unit
-  pub lines_are : piece.lines ≡ method_lines class class.methods verdicts
+  pub lines_are : piece.lines ≡ field_lines class class.fields causes ++ method_lines class class.methods verdicts
 
--- the piece of a class: it is printed, where it is of the class part; else there is the line that nothing of it is printed yet
+-- a class isn't printed: it has no text, and the line with its first cause
+pub record RefusesClass (world : WorldOf) (class : ClassOf) (piece : Piece) : Type 0 where
+  pub cause : ClassCause
+  pub first : IsClassCause world class (Some cause)
+  pub no_text : piece.text ≡ []
+  pub line_is : piece.lines ≡ line_text (report.RefusedClass class.this_class cause)
+
+-- the piece of a class: it is printed, or it has a cause
 pub data IsClassPiece (world : WorldOf) (class : ClassOf) (piece : Piece) : Type 0 where
-  printed : IsClassPart class → PrintsClass world class piece → IsClassPiece world class piece
-  not_yet : ¬ IsClassPart class → piece.text ≡ [] → piece.lines ≡ line_text (report.NotYetClass class.this_class) → IsClassPiece world class piece
+  prints : PrintsClass world class piece → IsClassPiece world class piece
+  refuses : RefusesClass world class piece → IsClassPiece world class piece
 
 -- the piece of a file of this name: that of its class, or the line that its class clashes, or that it is broken
 abbrev pub IsFilePiece : WorldOf → List ℕ → FileIs → Piece → Type 0
@@ -132,19 +193,47 @@ IsFilePiece world name (IsBroken kind offset) piece = (piece.text ≡ []) × (pi
 
 -- ---- all files
 
--- the piece behind those of the files: today nothing
-pub record IsLastPiece (piece : Piece) : Type 0 where
-  pub no_text : piece.text ≡ []
-  pub no_line : piece.lines ≡ []
+-- the line on a list of library files that isn't UTF-8
+abbrev pub unread_line : Option (List ℕ) → List ℕ
+unread_line None = []
+unread_line (Some path) = line_text (report.Unread path)
 
--- the piece behind these: that of the next file, or behind all files the last one
-abbrev pub IsNext : List (List ℕ) → List FileIs → WorldOf → List Piece → Piece → Type 0
+-- the line on a library file of this path whose class clashes with others: none where one of its name was there already
+abbrev pub behind_line : List ℕ → ClashKind → List ℕ
+behind_line path clash.Twice = []
+behind_line path clash.Cycle = line_text (report.Clash path clash.Cycle)
+behind_line path clash.SuperIsFinal = line_text (report.Clash path clash.SuperIsFinal)
+behind_line path clash.SuperKind = line_text (report.Clash path clash.SuperKind)
+
+-- the line on a library file of this path: none where its class is in the world
+abbrev pub library_line : List ℕ → FileIs → List ℕ
+library_line path (IsClass class) = []
+library_line path (IsClash kind) = behind_line path kind
+library_line path (IsBroken kind offset) = line_text (report.Broken path kind offset)
+
+-- the same of library files of these paths, in order
+abbrev pub library_lines : List (List ℕ) → List FileIs → List ℕ
+library_lines [] found = []
+library_lines (path ∷ paths) [] = []
+library_lines (path ∷ paths) (file ∷ found) = library_line path file ++ library_lines paths found
+
+-- the lines behind those on the named files: on the list of library files, and on these
+abbrev pub last_lines : Finds → List ℕ
+last_lines found = unread_line found.unread ++ library_lines found.paths found.library
+
+-- the piece behind those of the named files: it has no text
+pub record IsLastPiece (found : Finds) (piece : Piece) : Type 0 where
+  pub no_text : piece.text ≡ []
+  pub lines_are : piece.lines ≡ last_lines found
+
+-- the piece behind these: that of the next named file, or behind all of these the last one
+abbrev pub IsNext : List (List ℕ) → Finds → WorldOf → List Piece → Piece → Type 0
 IsNext names found world before piece =
-    IsSomeAnd (slice_get names (length before)) (λ name. IsSomeAnd (slice_get found (length before)) (λ file. IsFilePiece world name file piece))
-    ⊎ ((length before ≡ length names) × IsLastPiece piece)
+    IsSomeAnd (slice_get names (length before)) (λ name. IsSomeAnd (slice_get found.named (length before)) (λ file. IsFilePiece world name file piece))
+    ⊎ ((length before ≡ length names) × IsLastPiece found piece)
 
 -- some first pieces, in order
-pub data AreFirst (names : List (List ℕ)) (found : List FileIs) (world : WorldOf) : List Piece → Type 0 where
+pub data AreFirst (names : List (List ℕ)) (found : Finds) (world : WorldOf) : List Piece → Type 0 where
   none : AreFirst names found world []
   more : (before : List Piece) (piece : Piece) → AreFirst names found world before → IsNext names found world before piece → AreFirst names found world (before ++ piece ∷ [])
 
@@ -164,7 +253,7 @@ pub record Grew (pieces : List Piece) (text lines : List ℕ) (text_old text_new
   pub report_taken : report_new ≡ append_known report_old (lines_of pieces ++ lines)
 
 -- so many first pieces were told, whole, and nothing besides; the flag tells whether they have a line
-pub record ToldFirst (count : ℕ) (refused : Bool) (text_old text_new report_old report_new : Option (List ℕ)) (names : List (List ℕ)) (found : List FileIs) (world : WorldOf) : Type 0 where
+pub record ToldFirst (count : ℕ) (refused : Bool) (text_old text_new report_old report_new : Option (List ℕ)) (names : List (List ℕ)) (found : Finds) (world : WorldOf) : Type 0 where
   pub pieces : List Piece
   pub are : AreFirst names found world pieces
   pub number : length pieces ≡ count
@@ -172,12 +261,12 @@ pub record ToldFirst (count : ℕ) (refused : Bool) (text_old text_new report_ol
   pub refused_is : MatchBool refused (lines_of pieces ≢ []) (lines_of pieces ≡ [])
 
 -- the pieces of all files and the last one were told; the flag tells whether there is a line
-abbrev pub ToldAll : Bool → Option (List ℕ) → Option (List ℕ) → Option (List ℕ) → Option (List ℕ) → List (List ℕ) → List FileIs → WorldOf → Type 0
+abbrev pub ToldAll : Bool → Option (List ℕ) → Option (List ℕ) → Option (List ℕ) → Option (List ℕ) → List (List ℕ) → Finds → WorldOf → Type 0
 ToldAll refused text_old text_new report_old report_new names found world =
     ToldFirst (length names + 1) refused text_old text_new report_old report_new names found world
 
 -- some first pieces were told, whole, and nothing besides
-abbrev pub ToldSome : Option (List ℕ) → Option (List ℕ) → Option (List ℕ) → Option (List ℕ) → List (List ℕ) → List FileIs → WorldOf → Type 0
+abbrev pub ToldSome : Option (List ℕ) → Option (List ℕ) → Option (List ℕ) → Option (List ℕ) → List (List ℕ) → Finds → WorldOf → Type 0
 ToldSome text_old text_new report_old report_new names found world =
     (count : ℕ) × (refused : Bool) × ToldFirst count refused text_old text_new report_old report_new names found world
 
@@ -192,7 +281,7 @@ Front InText piece text lines = (count : ℕ) × (text ≡ take count piece.text
 Front InLines piece text lines = (count : ℕ) × (text ≡ piece.text) × (lines ≡ take count piece.lines)
 
 -- some first pieces were told, whole, of the next one a front, and nothing besides
-pub record ToldFront (cut : Cut) (text_old text_new report_old report_new : Option (List ℕ)) (names : List (List ℕ)) (found : List FileIs) (world : WorldOf) : Type 0 where
+pub record ToldFront (cut : Cut) (text_old text_new report_old report_new : Option (List ℕ)) (names : List (List ℕ)) (found : Finds) (world : WorldOf) : Type 0 where
   pub pieces : List Piece
   pub are : AreFirst names found world pieces
   pub next : Piece
@@ -202,14 +291,14 @@ pub record ToldFront (cut : Cut) (text_old text_new report_old report_new : Opti
   pub front : Front cut next text lines
   pub grew : Grew pieces text lines text_old text_new report_old report_new
 
--- so much was told of files and of the world that they make; they are those of these names where the files tell what they hold
-pub record OfFiles (held : Option Files) (names : List (List ℕ)) (Told : List (List ℕ) → List FileIs → WorldOf → Type 0) : Type 0 where
-  pub found : List FileIs
+-- so much was told of the files of an order and of the world that they make; they are the named ones and those of this list where the files tell what they hold
+pub record OfFiles (held : Option Files) (named : List (List ℕ)) (list : Option (List ℕ)) (Told : List (List ℕ) → Finds → WorldOf → Type 0) : Type 0 where
+  pub found : Finds
   pub world : WorldOf
-  pub setting : Setting held names found world
-  pub told : Told names found world
+  pub setting : Setting held named list found world
+  pub told : Told named found world
 
 -- a run that wanted memory had put nothing, or some first pieces, whole
-abbrev pub StopsForMemory : Option Files → List (List ℕ) → Option (List ℕ) → Option (List ℕ) → Option (List ℕ) → Option (List ℕ) → Type 0
-StopsForMemory held names text_old text_new report_old report_new =
-    ((text_new ≡ text_old) × (report_new ≡ report_old)) ⊎ OfFiles held names (ToldSome text_old text_new report_old report_new)
+abbrev pub StopsForMemory : Option Files → List (List ℕ) → Option (List ℕ) → Option (List ℕ) → Option (List ℕ) → Option (List ℕ) → Option (List ℕ) → Type 0
+StopsForMemory held named list text_old text_new report_old report_new =
+    ((text_new ≡ text_old) × (report_new ≡ report_old)) ⊎ OfFiles held named list (ToldSome text_old text_new report_old report_new)

@@ -1,44 +1,37 @@
 //! What is found of the methods of a class.
 
-ghost use Rattle.std.specs.Prelude.{◌≡◌, ◌⊎◌, ◌++◌, ◌∷◌, [], List, All, IfOk, IsSome, OnOk, map};
-ghost use Rattle.dj_names.specs.Types.{view_descriptor};
+ghost use Rattle.std.specs.Prelude.{◌≡◌, ◌++◌, ◌∷◌, ◌<◌, [], List, None, IfOk, IsSome, OnOk, length, map, option_map};
 ghost use Rattle.dj_class.specs.Described.{MethodOf};
 ghost use Rattle.dj_class.specs.Views.{view_class, view_method};
-ghost use Rattle.dj_syntax.specs.Trees as trees;
-ghost use Rattle.dj_syntax.specs.Trees.{view_body, view_exp};
-ghost use Rattle.dj_unit.specs.ClassText.{method_text};
+ghost use Rattle.dj_syntax.specs.Trees.{view_body};
+ghost use Rattle.dj_causes.specs.Tables.{AreCauses};
 ghost use Rattle.dj_code.specs.MethodCode.{view_code};
 ghost use Rattle.dj_code.specs.ReadCode.{SpellsCode};
 ghost use Rattle.dj_world.specs.Worlds.{WorldOf};
 ghost use Rattle.dj_straight.specs.DeclaredMethods.{Holds};
 ghost use Rattle.dj_cli.specs.Output.{IsVerified};
-ghost use Rattle.dj_cli.specs.Methods.{AreJudged, IsFound, IsTextOf, IsToldOf, lines_bytes};
+ghost use Rattle.dj_cli.specs.Lines.{lines_bytes};
+ghost use Rattle.dj_cli.specs.Methods.{AreJudged, IsFound, IsToldOf};
 
+use crate::endings::{Ending, MemberLine, Subject, method_ending};
+use dj_causes::{Cause, Causes};
 use dj_class::{ClassFile, Method};
 use dj_code::{BadKind, Code, CodeFault, read_code_of};
-use dj_names::{Items, MethodHead, copy_names};
+use dj_names::Items;
 use dj_report::{bad_tail, not_yet_tail, unverified_tail};
 use dj_straight::{Declared, Judged, judge, returning_body};
-use dj_syntax::{Body, Exp, MethodText, method_bits};
+use dj_syntax::{Body, Exp};
 use dj_verify::{Rule, VerifyFault, verify};
 use dj_world::World;
 use std::alloc::{AllocError, Global};
 
-/// The line on a method that isn't printed.
-#[derive(Drop)]
-pub struct MethodLine<'a> {
-    pub method: &'a Method,
-    /// How the line ends.
-    pub tail: String,
-}
-
 /// What is found of the methods of a class.
 #[derive(Drop)]
 pub struct Judgement<'a> {
-    /// The texts of those that are printed, in file order.
-    pub texts: Items<MethodText>,
-    /// The lines on the others, in file order.
-    pub lines: Vec<MethodLine<'a>>,
+    /// The body that each is printed with, where it has one.
+    pub bodies: Items<Option<Body>>,
+    /// The lines on those that aren't printed, in file order.
+    pub lines: Vec<MemberLine<'a>>,
 }
 
 /// What is found of a method.
@@ -46,6 +39,10 @@ pub struct Judgement<'a> {
 enum Finding {
     /// It returns this expression.
     Straight(Exp),
+    /// It has no code, and is printed without.
+    Bare,
+    /// It has no code, and this is its first cause.
+    Refused(Cause),
     /// Its code has this fault first, at this offset.
     Bad { pc: u32, kind: BadKind },
     /// Its code breaks this rule first, at this offset.
@@ -54,53 +51,12 @@ enum Finding {
     NotYet(u32),
 }
 
-/// What is told of a method: its text, or the end of its line.
+/// What is told of a method: its body, that it is printed without one, or how its line ends.
 #[derive(Drop)]
 enum Told {
-    Text(MethodText),
-    Line(String),
-}
-
-/// A copy of a method's head.
-fn copied_head(alloc: Global, method: &Method) -> Result<MethodHead, AllocError>
-    ensures flags { IfOk result (λ head. head.flags ≡ method.now.flags) }
-    ensures name { IfOk result (λ head. head.name ≡ method.now.name) }
-    ensures descriptor { IfOk result (λ head. head.descriptor ≡ method.now.descriptor) }
-    ensures thrown { IfOk result (λ head. head.thrown ≡ method.now.thrown) }
-{
-    Ok(MethodHead {
-        flags: method.flags,
-        name: method.name.copy(alloc)?,
-        descriptor: method.descriptor.copy(alloc)?,
-        thrown: copy_names(alloc, method.thrown.as_slice())?,
-    })
-}
-
-/// The text of a method with this body.
-fn method_text(alloc: Global, method: &Method, body: Body) -> Result<MethodText, AllocError>
-    ensures text { IfOk result (λ text. trees.view_method text ≡ method_text (view_method method.now) (view_body body)) }
-{
-    let head = copied_head(alloc, method)?;
-    Ok(MethodText {
-        flags: head.flags & method_bits(false),
-        name: head.name,
-        descriptor: head.descriptor,
-        thrown: head.thrown,
-        body: Some(body),
-    })
-}
-
-/// The text of a method that returns an expression.
-fn returning_text(
-    alloc: Global,
-    class: &ClassFile,
-    method: &Method,
-    exp: Exp,
-) -> Result<MethodText, AllocError>
-    ensures text { IfOk result (λ text. IsTextOf (view_class class.now) (view_method method.now) (view_exp exp) (trees.view_method text)) }
-{
-    let body = returning_body(alloc, class, method, exp)?;
-    method_text(alloc, method, body)
+    Body(Body),
+    Bare,
+    Line(Ending),
 }
 
 /// What is found of a method that has this code where it is verified, and where the table holds those before it; it is
@@ -167,22 +123,49 @@ fn find_coded<'a>(
     }
 }
 
-/// What is found of a method, where the table holds those before it; it is put into the table.
+/// What is found of the method at a place, without code.
+fn find_bare(
+    alloc: Global,
+    world: &World,
+    class: &ClassFile,
+    causes: &Causes,
+    at: usize,
+) -> Result<Finding, AllocError>
+    requires made { AreCauses world.now (view_class class.now) causes.now }
+    requires within { at < length class.now.methods }
+    ensures found { IfOk result (λ found. (before : List MethodOf) (method : MethodOf) → length before ≡ at → method.code ≡ None → IsFound world.now (view_class class.now) before method found) }
+{
+    let cause = causes.bare_cause(alloc, world, class, at)?;
+    match cause {
+        Some(cause) => Ok(Finding::Refused(cause)),
+        None => Ok(Finding::Bare),
+    }
+}
+
+/// What is found of the method at a place, where the table holds those before it; it is put into the table.
 fn find<'a>(
     alloc: Global,
     world: &World,
     class: &ClassFile,
+    causes: &Causes,
     declared: &mut Declared<'a>,
+    at: usize,
     method: &'a Method,
 ) -> Result<Finding, AllocError>
-    ensures found { IfOk result (λ found. (before : List MethodOf) → Holds declared.old before → IsFound world.now (view_class class.now) before (view_method method.now) found) }
+    requires made { AreCauses world.now (view_class class.now) causes.now }
+    requires within { at < length class.now.methods }
+    ensures found { IfOk result (λ found. (before : List MethodOf) → length before ≡ at → Holds declared.old before → IsFound world.now (view_class class.now) before (view_method method.now) found) }
     ensures declared { OnOk result ((before : List MethodOf) → Holds declared.old before → Holds declared.new (before ++ view_method method.now ∷ [])) }
 {
     match &method.code {
-        Some(_) => find_coded(alloc, world, class, declared, method),
+        Some(_) => {
+            let found = find_coded(alloc, world, class, declared, method)?;
+            Ok(found)
+        }
         None => {
             declared.admit(method)?;
-            Ok(Finding::NotYet(0))
+            let found = find_bare(alloc, world, class, causes, at)?;
+            Ok(found)
         }
     }
 }
@@ -197,25 +180,33 @@ fn told_of(
     ensures told { (world : WorldOf) (before : List MethodOf) → IsFound world (view_class class.now) before (view_method method.now) found → IfOk result (IsToldOf world (view_class class.now) before (view_method method.now)) }
 {
     match found {
-        Finding::Straight(exp) => Ok(Told::Text(returning_text(alloc, class, method, exp)?)),
-        Finding::Bad { pc, kind } => Ok(Told::Line(bad_tail(alloc, kind, pc)?)),
-        Finding::Unverified { pc, rule } => Ok(Told::Line(unverified_tail(alloc, rule, pc)?)),
-        Finding::NotYet(pc) => Ok(Told::Line(not_yet_tail(alloc, pc)?)),
+        Finding::Straight(exp) => Ok(Told::Body(returning_body(alloc, class, method, exp)?)),
+        Finding::Bare => Ok(Told::Bare),
+        Finding::Refused(cause) => Ok(Told::Line(method_ending(alloc, &cause)?)),
+        Finding::Bad { pc, kind } => Ok(Told::Line(Ending::Text(bad_tail(alloc, kind, pc)?))),
+        Finding::Unverified { pc, rule } => {
+            Ok(Told::Line(Ending::Text(unverified_tail(alloc, rule, pc)?)))
+        }
+        Finding::NotYet(pc) => Ok(Told::Line(Ending::Text(not_yet_tail(alloc, pc)?))),
     }
 }
 
-/// What is told of a method, where the table holds those before it; it is put into the table.
+/// What is told of the method at a place, where the table holds those before it; it is put into the table.
 fn judge_method<'a>(
     alloc: Global,
     world: &World,
     class: &ClassFile,
+    causes: &Causes,
     declared: &mut Declared<'a>,
+    at: usize,
     method: &'a Method,
 ) -> Result<Told, AllocError>
-    ensures told { IfOk result (λ told. (before : List MethodOf) → Holds declared.old before → IsToldOf world.now (view_class class.now) before (view_method method.now) told) }
+    requires made { AreCauses world.now (view_class class.now) causes.now }
+    requires within { at < length class.now.methods }
+    ensures told { IfOk result (λ told. (before : List MethodOf) → length before ≡ at → Holds declared.old before → IsToldOf world.now (view_class class.now) before (view_method method.now) told) }
     ensures declared { OnOk result ((before : List MethodOf) → Holds declared.old before → Holds declared.new (before ++ view_method method.now ∷ [])) }
 {
-    let found = find(alloc, world, class, declared, method)?;
+    let found = find(alloc, world, class, causes, declared, at, method)?;
     let told = told_of(alloc, class, method, found)?;
     Ok(told)
 }
@@ -225,18 +216,26 @@ pub fn judge_methods<'a>(
     alloc: Global,
     world: &World,
     class: &'a ClassFile,
+    causes: &Causes,
 ) -> Result<Judgement<'a>, AllocError>
-    requires flags { All (λ method. (method.flags ≡ 0x8) ⊎ (method.flags ≡ 0x9)) (view_class class.now).methods }
-    ensures judged { IfOk result (λ found. AreJudged world.now (view_class class.now) (view_class class.now).methods (map trees.view_method found.texts) (lines_bytes class.now.this_class found.lines.items)) }
+    requires made { AreCauses world.now (view_class class.now) causes.now }
+    ensures judged { IfOk result (λ found. AreJudged world.now (view_class class.now) (view_class class.now).methods (map (option_map view_body) found.bodies) (lines_bytes class.now.this_class found.lines.items)) }
 {
-    let mut texts = Items::new(alloc);
+    let mut bodies = Items::new(alloc);
     let mut lines = Vec::new(alloc);
     let mut declared = Declared::new(alloc);
-    for method in class.methods.as_slice() {
-        match judge_method(alloc, world, class, &mut declared, method)? {
-            Told::Text(text) => texts.push(text)?,
-            Told::Line(tail) => lines.push(MethodLine { method, tail })?,
+    let methods = class.methods.as_slice();
+    for at in 0..methods.len() {
+        let method = &methods[at];
+        match judge_method(alloc, world, class, causes, &mut declared, at, method)? {
+            Told::Body(body) => bodies.push(Some(body))?,
+            Told::Bare => bodies.push(None)?,
+            Told::Line(ending) => {
+                let subject = Subject::Method(method);
+                lines.push(MemberLine { subject, ending })?;
+                bodies.push(None)?;
+            }
         }
     }
-    Ok(Judgement { texts, lines })
+    Ok(Judgement { bodies, lines })
 }

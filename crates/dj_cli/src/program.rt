@@ -1,23 +1,28 @@
 //! The main job: the words are read, the files are loaded and read, and the piece of each is told.
 
-ghost use Rattle.std.specs.Prelude.{◌≡◌, ◌≤◌, ◌⊎◌, true, false, Ok, Err, length, map, IsOk, OnErr, ⊤};
+ghost use Rattle.std.specs.Prelude.{◌≡◌, ◌≤◌, ◌⊎◌, Bool, true, false, Ok, Err, All, length, map, IsOk, OnErr, ⊤};
 ghost use Rattle.std.specs.Io.KnownBytes.{append_known};
 ghost use Rattle.std.specs.String.{string_bytes};
 ghost use Rattle.dj_outer.specs.Count.{Rose};
 ghost use Rattle.dj_outer.specs.Sink.{TakesPrefix};
-ghost use Rattle.dj_report.specs.Words.{order_of};
+ghost use Rattle.std.specs.Option.{option_map};
 ghost use Rattle.dj_report.specs.Status.{MatchEnd, OnClean, OnRefused, IfUsage, IfReadFault, OnTextFault, OnReportFault, IfTooMuch, OnLoaded};
 ghost use Rattle.dj_report.specs.Report.{Line};
 ghost use Rattle.dj_cli.specs.Output.{InLines, InText, OfFiles, StopsForMemory, ToldAll, ToldFront, ToldSome};
+ghost use Rattle.dj_words.specs.Orders.{Files};
+ghost use Rattle.dj_load.specs.HeldFiles.{OfDue};
 ghost use Rattle.dj_load.specs.Loads.{AsksFront, IsTooMuch, ReadFails, asked_with};
-ghost use Rattle.dj_cli.specs.Program.{CutsLastLine, TellsLine, due_names};
-ghost use Rattle.dj_load.specs.Loading.{all_found};
+ghost use Rattle.dj_cli.specs.Program.{CutsLastLine, TellsLine, list_of, named_of, taken_order};
+ghost use Rattle.dj_load.specs.Loading.{finds_of, found_of};
+ghost use Rattle.dj_cli.specs.Pieces.{IsOfFile};
 ghost use Rattle.dj_cli.specs.Run.{EndsSo};
 
+use crate::ordering::files_order;
 use crate::telling::{TellStop, tell_files};
-use dj_load::{FoundFiles, LoadStop, load_files, read_files};
+use dj_load::{FoundFiles, LoadStop, load_order, read_files};
 use dj_outer::{Files, Sink};
-use dj_report::{Status, WordsFault, much_line, read_line, read_words, usage_line};
+use dj_report::{Status, much_line, read_line, usage_line};
+use dj_words::WordsFault;
 use std::alloc::{AllocError, Global};
 
 /// Puts one last line, and ends with this status.
@@ -40,13 +45,15 @@ fn tell<T: Sink, P: Sink>(
     report: &mut P,
 ) -> Result<Status, AllocError>
     requires number { length files.now.found.items ≡ length named.now }
-    ensures clean { OnClean result (ToldAll false (T.taken text.old) (T.taken text.new) (P.taken report.old) (P.taken report.new) (map string_bytes named.now) (all_found files.now.found.items) files.now.world) }
-    ensures refused { OnRefused result (ToldAll true (T.taken text.old) (T.taken text.new) (P.taken report.old) (P.taken report.new) (map string_bytes named.now) (all_found files.now.found.items) files.now.world) }
+    requires library { length files.now.library.items ≡ length files.now.paths.items }
+    requires of_files { All (λ found. IsOfFile (found_of found)) files.now.found.items }
+    ensures clean { OnClean result (ToldAll false (T.taken text.old) (T.taken text.new) (P.taken report.old) (P.taken report.new) (map string_bytes named.now) (finds_of files.now) files.now.world) }
+    ensures refused { OnRefused result (ToldAll true (T.taken text.old) (T.taken text.new) (P.taken report.old) (P.taken report.new) (map string_bytes named.now) (finds_of files.now) files.now.world) }
     ensures text_rose { OnTextFault result (Rose (T.faults text.old) (T.faults text.new)) }
-    ensures text_fault { OnTextFault result (ToldFront InText (T.taken text.old) (T.taken text.new) (P.taken report.old) (P.taken report.new) (map string_bytes named.now) (all_found files.now.found.items) files.now.world) }
+    ensures text_fault { OnTextFault result (ToldFront InText (T.taken text.old) (T.taken text.new) (P.taken report.old) (P.taken report.new) (map string_bytes named.now) (finds_of files.now) files.now.world) }
     ensures report_rose { OnReportFault result (Rose (P.faults report.old) (P.faults report.new)) }
-    ensures report_fault { OnReportFault result (ToldFront InLines (T.taken text.old) (T.taken text.new) (P.taken report.old) (P.taken report.new) (map string_bytes named.now) (all_found files.now.found.items) files.now.world) }
-    ensures memory { OnErr result (ToldSome (T.taken text.old) (T.taken text.new) (P.taken report.old) (P.taken report.new) (map string_bytes named.now) (all_found files.now.found.items) files.now.world) }
+    ensures report_fault { OnReportFault result (ToldFront InLines (T.taken text.old) (T.taken text.new) (P.taken report.old) (P.taken report.new) (map string_bytes named.now) (finds_of files.now) files.now.world) }
+    ensures memory { OnErr result (ToldSome (T.taken text.old) (T.taken text.new) (P.taken report.old) (P.taken report.new) (map string_bytes named.now) (finds_of files.now) files.now.world) }
     ensures no_other { MatchEnd result ⊤ ⊤ (λ _. ⊥) (λ _. ⊥) ⊤ ⊤ (λ _. ⊥) }
 {
     match tell_files(alloc, named, files, text, report) {
@@ -58,36 +65,37 @@ fn tell<T: Sink, P: Sink>(
     }
 }
 
-/// Prints the files of these names.
+/// Prints the files of these names, beside those of the list of library files, if one is named.
 fn print_files<F: Files, T: Sink, P: Sink>(
     alloc: Global,
     named: &[String],
+    list: &Option<String>,
     files: &mut F,
     text: &mut T,
     report: &mut P,
 ) -> Result<Status, AllocError>
-    ensures clean { OnClean result (OfFiles (F.held files.old) (map string_bytes named.now) (ToldAll false (T.taken text.old) (T.taken text.new) (P.taken report.old) (P.taken report.new))) }
-    ensures refused { OnRefused result (OfFiles (F.held files.old) (map string_bytes named.now) (ToldAll true (T.taken text.old) (T.taken text.new) (P.taken report.old) (P.taken report.new))) }
+    ensures clean { OnClean result (OfFiles (F.held files.old) (map string_bytes named.now) (option_map string_bytes list.now) (ToldAll false (T.taken text.old) (T.taken text.new) (P.taken report.old) (P.taken report.new))) }
+    ensures refused { OnRefused result (OfFiles (F.held files.old) (map string_bytes named.now) (option_map string_bytes list.now) (ToldAll true (T.taken text.old) (T.taken text.new) (P.taken report.old) (P.taken report.new))) }
     ensures usage { IfUsage result (λ kind. ⊥) }
-    ensures read { IfReadFault result (ReadFails (F.held files.old) (map string_bytes named.now) (F.asked files.old) (F.asked files.new) (F.faults files.old) (F.faults files.new)) }
+    ensures read { IfReadFault result (λ place. OfDue (F.held files.old) (map string_bytes named.now) (option_map string_bytes list.now) (λ due. ReadFails (F.held files.old) due (F.asked files.old) (F.asked files.new) (F.faults files.old) (F.faults files.new) place)) }
     ensures read_line { IfReadFault result (λ place. TellsLine (Line.Read place) (T.taken text.old) (T.taken text.new) (P.taken report.old) (P.taken report.new)) }
-    ensures much { IfTooMuch result (IsTooMuch (F.held files.old) (map string_bytes named.now) (F.asked files.old) (F.asked files.new)) }
+    ensures much { IfTooMuch result (λ place. OfDue (F.held files.old) (map string_bytes named.now) (option_map string_bytes list.now) (λ due. IsTooMuch (F.held files.old) due (F.asked files.old) (F.asked files.new) place)) }
     ensures much_line { IfTooMuch result (λ place. TellsLine (Line.Much place) (T.taken text.old) (T.taken text.new) (P.taken report.old) (P.taken report.new)) }
     ensures text_rose { OnTextFault result (Rose (T.faults text.old) (T.faults text.new)) }
-    ensures text_fault { OnTextFault result (OfFiles (F.held files.old) (map string_bytes named.now) (ToldFront InText (T.taken text.old) (T.taken text.new) (P.taken report.old) (P.taken report.new))) }
+    ensures text_fault { OnTextFault result (OfFiles (F.held files.old) (map string_bytes named.now) (option_map string_bytes list.now) (ToldFront InText (T.taken text.old) (T.taken text.new) (P.taken report.old) (P.taken report.new))) }
     ensures report_rose { OnReportFault result (Rose (P.faults report.old) (P.faults report.new)) }
-    ensures report_fault { OnReportFault result (OfFiles (F.held files.old) (map string_bytes named.now) (ToldFront InLines (T.taken text.old) (T.taken text.new) (P.taken report.old) (P.taken report.new))
-        ⊎ CutsLastLine (Ok (map string_bytes named.now)) (F.held files.old) (F.asked files.old) (F.asked files.new) (F.faults files.old) (F.faults files.new) (T.taken text.old) (T.taken text.new) (P.taken report.old) (P.taken report.new)) }
-    ensures memory { OnErr result (StopsForMemory (F.held files.old) (map string_bytes named.now) (T.taken text.old) (T.taken text.new) (P.taken report.old) (P.taken report.new)) }
+    ensures report_fault { (raw : Bool) → OnReportFault result (OfFiles (F.held files.old) (map string_bytes named.now) (option_map string_bytes list.now) (ToldFront InLines (T.taken text.old) (T.taken text.new) (P.taken report.old) (P.taken report.new))
+        ⊎ CutsLastLine (Ok (Files (map string_bytes named.now) (option_map string_bytes list.now) raw)) (F.held files.old) (F.asked files.old) (F.asked files.new) (F.faults files.old) (F.faults files.new) (T.taken text.old) (T.taken text.new) (P.taken report.old) (P.taken report.new)) }
+    ensures memory { OnErr result (StopsForMemory (F.held files.old) (map string_bytes named.now) (option_map string_bytes list.now) (T.taken text.old) (T.taken text.new) (P.taken report.old) (P.taken report.new)) }
 
     // What the call asks for and leaves.
-    ensures asked { AsksFront (F.asked files.old) (F.asked files.new) (map string_bytes named.now) }
-    ensures asked_all { OnLoaded result (F.asked files.new ≡ asked_with (F.asked files.old) (map string_bytes named.now)) }
+    ensures asked { OfDue (F.held files.old) (map string_bytes named.now) (option_map string_bytes list.now) (AsksFront (F.asked files.old) (F.asked files.new)) }
+    ensures asked_all { OnLoaded result (OfDue (F.held files.old) (map string_bytes named.now) (option_map string_bytes list.now) (λ due. F.asked files.new ≡ asked_with (F.asked files.old) due)) }
     ensures kept { F.held files.new ≡ F.held files.old }
 {
-    match load_files(alloc, named, files) {
+    match load_order(alloc, named, list, files) {
         Ok(contents) => {
-            let found = read_files(alloc, contents.as_slice())?;
+            let found = read_files(alloc, contents)?;
             tell(alloc, named, &found, text, report)
         }
         Err(LoadStop::Fault(place)) => {
@@ -115,31 +123,34 @@ pub fn run<F: Files, T: Sink, P: Sink>(
     report: &mut P,
 ) -> Result<Status, AllocError>
     // What was told after a whole run.
-    ensures ordered { OnLoaded result (IsOk (order_of (map string_bytes words.now))) }
-    ensures clean { OnClean result (OfFiles (F.held files.old) (due_names (map string_bytes words.now)) (ToldAll false (T.taken text.old) (T.taken text.new) (P.taken report.old) (P.taken report.new))) }
-    ensures refused { OnRefused result (OfFiles (F.held files.old) (due_names (map string_bytes words.now)) (ToldAll true (T.taken text.old) (T.taken text.new) (P.taken report.old) (P.taken report.new))) }
+    ensures ordered { OnLoaded result (IsOk (taken_order (map string_bytes words.now))) }
+    ensures clean { OnClean result (OfFiles (F.held files.old) (named_of (taken_order (map string_bytes words.now))) (list_of (taken_order (map string_bytes words.now))) (ToldAll false (T.taken text.old) (T.taken text.new) (P.taken report.old) (P.taken report.new))) }
+    ensures refused { OnRefused result (OfFiles (F.held files.old) (named_of (taken_order (map string_bytes words.now))) (list_of (taken_order (map string_bytes words.now))) (ToldAll true (T.taken text.old) (T.taken text.new) (P.taken report.old) (P.taken report.new))) }
 
     // When each other answer comes, and what was told then.
-    ensures usage { IfUsage result (λ kind. order_of (map string_bytes words.now) ≡ Err kind) }
+    ensures usage { IfUsage result (λ kind. taken_order (map string_bytes words.now) ≡ Err kind) }
     ensures usage_line { IfUsage result (λ kind. TellsLine (Line.Usage kind) (T.taken text.old) (T.taken text.new) (P.taken report.old) (P.taken report.new)) }
-    ensures read { IfReadFault result (ReadFails (F.held files.old) (due_names (map string_bytes words.now)) (F.asked files.old) (F.asked files.new) (F.faults files.old) (F.faults files.new)) }
+    ensures read { IfReadFault result (λ place. OfDue (F.held files.old) (named_of (taken_order (map string_bytes words.now))) (list_of (taken_order (map string_bytes words.now))) (λ due. ReadFails (F.held files.old) due (F.asked files.old) (F.asked files.new) (F.faults files.old) (F.faults files.new) place)) }
     ensures read_line { IfReadFault result (λ place. TellsLine (Line.Read place) (T.taken text.old) (T.taken text.new) (P.taken report.old) (P.taken report.new)) }
-    ensures much { IfTooMuch result (IsTooMuch (F.held files.old) (due_names (map string_bytes words.now)) (F.asked files.old) (F.asked files.new)) }
+    ensures much { IfTooMuch result (λ place. OfDue (F.held files.old) (named_of (taken_order (map string_bytes words.now))) (list_of (taken_order (map string_bytes words.now))) (λ due. IsTooMuch (F.held files.old) due (F.asked files.old) (F.asked files.new) place)) }
     ensures much_line { IfTooMuch result (λ place. TellsLine (Line.Much place) (T.taken text.old) (T.taken text.new) (P.taken report.old) (P.taken report.new)) }
     ensures text_rose { OnTextFault result (Rose (T.faults text.old) (T.faults text.new)) }
-    ensures text_fault { OnTextFault result (OfFiles (F.held files.old) (due_names (map string_bytes words.now)) (ToldFront InText (T.taken text.old) (T.taken text.new) (P.taken report.old) (P.taken report.new))) }
+    ensures text_fault { OnTextFault result (OfFiles (F.held files.old) (named_of (taken_order (map string_bytes words.now))) (list_of (taken_order (map string_bytes words.now))) (ToldFront InText (T.taken text.old) (T.taken text.new) (P.taken report.old) (P.taken report.new))) }
     ensures report_rose { OnReportFault result (Rose (P.faults report.old) (P.faults report.new)) }
-    ensures report_fault { OnReportFault result (OfFiles (F.held files.old) (due_names (map string_bytes words.now)) (ToldFront InLines (T.taken text.old) (T.taken text.new) (P.taken report.old) (P.taken report.new))
-        ⊎ CutsLastLine (order_of (map string_bytes words.now)) (F.held files.old) (F.asked files.old) (F.asked files.new) (F.faults files.old) (F.faults files.new) (T.taken text.old) (T.taken text.new) (P.taken report.old) (P.taken report.new)) }
-    ensures memory { OnErr result (StopsForMemory (F.held files.old) (due_names (map string_bytes words.now)) (T.taken text.old) (T.taken text.new) (P.taken report.old) (P.taken report.new)) }
+    ensures report_fault { OnReportFault result (OfFiles (F.held files.old) (named_of (taken_order (map string_bytes words.now))) (list_of (taken_order (map string_bytes words.now))) (ToldFront InLines (T.taken text.old) (T.taken text.new) (P.taken report.old) (P.taken report.new))
+        ⊎ CutsLastLine (taken_order (map string_bytes words.now)) (F.held files.old) (F.asked files.old) (F.asked files.new) (F.faults files.old) (F.faults files.new) (T.taken text.old) (T.taken text.new) (P.taken report.old) (P.taken report.new)) }
+    ensures memory { OnErr result (StopsForMemory (F.held files.old) (named_of (taken_order (map string_bytes words.now))) (list_of (taken_order (map string_bytes words.now))) (T.taken text.old) (T.taken text.new) (P.taken report.old) (P.taken report.new)) }
 
     // What the call asks for and leaves, whatever it answers.
-    ensures asked { AsksFront (F.asked files.old) (F.asked files.new) (due_names (map string_bytes words.now)) }
-    ensures asked_all { OnLoaded result (F.asked files.new ≡ asked_with (F.asked files.old) (due_names (map string_bytes words.now))) }
+    ensures asked { OfDue (F.held files.old) (named_of (taken_order (map string_bytes words.now))) (list_of (taken_order (map string_bytes words.now))) (AsksFront (F.asked files.old) (F.asked files.new)) }
+    ensures asked_all { OnLoaded result (OfDue (F.held files.old) (named_of (taken_order (map string_bytes words.now))) (list_of (taken_order (map string_bytes words.now))) (λ due. F.asked files.new ≡ asked_with (F.asked files.old) due)) }
     ensures kept { F.held files.new ≡ F.held files.old }
 {
-    match read_words(alloc, words) {
-        Ok(order) => print_files(alloc, order.into_names().as_slice(), files, text, report),
+    match files_order(alloc, words) {
+        Ok(order) => {
+            let named = order.named.as_slice();
+            print_files(alloc, named, &order.list, files, text, report)
+        }
         Err(WordsFault::Usage(kind)) => {
             let line = usage_line(alloc, kind)?;
             Ok(last_line(report, line.as_slice(), Status::Usage(kind)))

@@ -1,27 +1,27 @@
 //! The pieces of files, told to the text and to the report.
 
-ghost use Rattle.std.specs.Prelude.{◌≡◌, ◌≤◌, ◌++◌, ℕ, List, Option, IfOk, IfErr, length, map};
+ghost use Rattle.std.specs.Prelude.{◌≡◌, ◌≢◌, ◌≤◌, ℕ, List, [], All, Option, IfOk, IfErr, MatchBool, length, map};
 ghost use Rattle.std.specs.String.{string_bytes};
 ghost use Rattle.dj_outer.specs.Count.{Rose};
 ghost use Rattle.dj_outer.specs.Sink.{Puts};
 ghost use Rattle.dj_class.specs.Views.{view_class};
 ghost use Rattle.dj_world.specs.Worlds.{WorldOf};
-ghost use Rattle.dj_unit.specs.ClassPart.{IsClassPart};
-ghost use Rattle.dj_load.specs.Loading.{all_found, found_of};
-ghost use Rattle.dj_cli.specs.Methods.{lines_bytes};
-ghost use Rattle.dj_cli.specs.Output.{InLines, InText, IsClassPiece, IsFilePiece, ToldAll, ToldFront, ToldSome};
+ghost use Rattle.dj_class_text.specs.Formed.{IsFromFile};
+ghost use Rattle.dj_load.specs.Loading.{finds_of, found_of};
+ghost use Rattle.dj_cli.specs.Output.{InLines, InText, IsClassPiece, IsFilePiece, IsLastPiece, ToldAll, ToldFront, ToldSome};
 ghost use Rattle.dj_load.specs.HeldFiles.{IsBroken, IsClash};
-ghost use Rattle.dj_cli.specs.Pieces.{text_bytes};
+ghost use Rattle.dj_cli.specs.Pieces.{IsOfFile, piece_of, refused_piece, report_bytes, text_bytes};
 ghost use Rattle.dj_cli.specs.Telling.{StoppedTelling, StopsPiece, TellsPiece};
 
-use crate::methods::MethodLine;
-use crate::pieces::{ClassPiece, piece_of_class};
+use crate::endings::put_lines;
+use crate::last::last_lines;
+use crate::pieces::{ClassPiece, ClassTold, piece_of_class};
+use dj_causes::ClassCause;
 use dj_class::{BrokenKind, ClassFile};
 use dj_load::{Found, FoundFiles};
 use dj_names::ClassName;
 use dj_outer::{Failed, Sink};
-use dj_report::{broken_line, clash_line, put_class_line, put_method_line, put_piece};
-use dj_unit::is_class_part;
+use dj_report::{broken_line, clash_line, put_piece, put_refused_class_line, refused_class_tail};
 use dj_world::{ClashKind, World};
 use std::alloc::{AllocError, Global};
 
@@ -54,60 +54,66 @@ fn put_text<T: Sink>(text: &mut T, piece: &ClassPiece) -> Result<(), Failed>
     put_piece(text, piece.unit.as_slice())
 }
 
-/// Puts lines on methods of a class.
-fn put_lines<P: Sink>(report: &mut P, class: &ClassName, lines: &[MethodLine]) -> Result<(), Failed>
-    ensures puts { Puts result (P.taken report.old) (P.taken report.new) (P.faults report.old) (P.faults report.new) (lines_bytes class.now lines.now) }
+/// Puts the lines on a class: those on its fields, and then those on its methods.
+fn put_report<P: Sink>(
+    report: &mut P,
+    class: &ClassName,
+    piece: &ClassPiece<'_>,
+) -> Result<(), Failed>
+    ensures puts { Puts result (P.taken report.old) (P.taken report.new) (P.faults report.old) (P.faults report.new) (report_bytes class.now piece.now) }
 {
-    for line in lines {
-        let method = line.method;
-        put_method_line(
-            report,
-            class,
-            &method.name,
-            &method.descriptor,
-            line.tail.as_str(),
-        )?;
-    }
-    Ok(())
+    put_lines(report, class, piece.fields.as_slice())?;
+    put_lines(report, class, piece.methods.as_slice())
 }
 
-/// Tells the piece of a class that is printed: its text, and then its lines, for which no memory is taken; whether it
+/// Whether a piece of a class has a line.
+fn has_line(piece: &ClassPiece<'_>) -> bool
+    ensures line { (class : List ℕ) → MatchBool result (report_bytes class piece.now ≢ []) (report_bytes class piece.now ≡ []) }
+{
+    let fields = !piece.fields.is_empty();
+    let methods = !piece.methods.is_empty();
+    fields | methods
+}
+
+/// Tells a piece of a class that is printed: its text, and then its lines, for which no memory is taken; whether it
 /// has a line.
 fn tell_printed<T: Sink, P: Sink>(
-    alloc: Global,
-    world: &World,
-    class: &ClassFile,
+    class: &ClassName,
+    piece: &ClassPiece<'_>,
     text: &mut T,
     report: &mut P,
 ) -> Result<bool, TellStop>
-    requires part { IsClassPart (view_class class.now) }
-    ensures told { IfOk result (λ refused. TellsPiece (IsClassPiece world.now (view_class class.now)) refused (T.taken text.old) (T.taken text.new) (P.taken report.old) (P.taken report.new)) }
-    ensures stopped { IfErr result (λ stop. StopsPiece (IsClassPiece world.now (view_class class.now)) stop (T.taken text.old) (T.taken text.new) (P.taken report.old) (P.taken report.new)) }
+    ensures told { IfOk result (λ refused. TellsPiece (λ told. told ≡ piece_of class.now piece.now) refused (T.taken text.old) (T.taken text.new) (P.taken report.old) (P.taken report.new)) }
+    ensures stopped { IfErr result (λ stop. StopsPiece (λ told. told ≡ piece_of class.now piece.now) stop (T.taken text.old) (T.taken text.new) (P.taken report.old) (P.taken report.new)) }
     ensures failed { IfErr result (λ stop. StoppedTelling stop (Rose (T.faults text.old) (T.faults text.new)) (Rose (P.faults report.old) (P.faults report.new)) (Unit {0})) }
 
     // What the call leaves.
     ensures text_falls { T.faults text.old ≤ T.faults text.new }
     ensures report_falls { P.faults report.old ≤ P.faults report.new }
 {
-    let piece = piece_of_class(alloc, world, class)?;
-    if let Err(Failed) = put_text(text, &piece) {
+    if let Err(Failed) = put_text(text, piece) {
         return Err(TellStop::Text);
     }
-    if let Err(Failed) = put_lines(report, &class.this_class, piece.lines.as_slice()) {
+    if let Err(Failed) = put_report(report, class, piece) {
         return Err(TellStop::Report);
     }
-    Ok(!piece.lines.is_empty())
+    Ok(has_line(piece))
 }
 
-/// Tells the line on a class of which nothing is printed yet; that it has a line.
-fn tell_not_yet<P: Sink>(class: &ClassFile, report: &mut P) -> Result<bool, TellStop>
-    requires other { ¬ IsClassPart (view_class class.now) }
-    ensures told { (world : WorldOf) (text : Option (List ℕ)) → IfOk result (λ refused. TellsPiece (IsClassPiece world (view_class class.now)) refused text text (P.taken report.old) (P.taken report.new)) }
-    ensures stopped { (world : WorldOf) (text : Option (List ℕ)) → IfErr result (λ stop. StopsPiece (IsClassPiece world (view_class class.now)) stop text text (P.taken report.old) (P.taken report.new)) }
+/// Tells the line on a class that is refused; that it has a line.
+fn tell_refused<P: Sink>(
+    alloc: Global,
+    class: &ClassName,
+    cause: &ClassCause,
+    report: &mut P,
+) -> Result<bool, TellStop>
+    ensures told { (text : Option (List ℕ)) → IfOk result (λ refused. TellsPiece (λ told. told ≡ refused_piece class.now cause.now) refused text text (P.taken report.old) (P.taken report.new)) }
+    ensures stopped { (text : Option (List ℕ)) → IfErr result (λ stop. StopsPiece (λ told. told ≡ refused_piece class.now cause.now) stop text text (P.taken report.old) (P.taken report.new)) }
     ensures failed { IfErr result (λ stop. StoppedTelling stop ⊥ (Rose (P.faults report.old) (P.faults report.new)) (Unit {0})) }
     ensures report_falls { P.faults report.old ≤ P.faults report.new }
 {
-    match put_class_line(report, &class.this_class) {
+    let tail = refused_class_tail(alloc, cause)?;
+    match put_refused_class_line(report, class, tail.as_str()) {
         Ok(()) => Ok(true),
         Err(Failed) => Err(TellStop::Report),
     }
@@ -121,6 +127,7 @@ fn tell_class<T: Sink, P: Sink>(
     text: &mut T,
     report: &mut P,
 ) -> Result<bool, TellStop>
+    requires of_file { IsFromFile (view_class class.now) }
     ensures told { IfOk result (λ refused. TellsPiece (IsClassPiece world.now (view_class class.now)) refused (T.taken text.old) (T.taken text.new) (P.taken report.old) (P.taken report.new)) }
     ensures stopped { IfErr result (λ stop. StopsPiece (IsClassPiece world.now (view_class class.now)) stop (T.taken text.old) (T.taken text.new) (P.taken report.old) (P.taken report.new)) }
     ensures failed { IfErr result (λ stop. StoppedTelling stop (Rose (T.faults text.old) (T.faults text.new)) (Rose (P.faults report.old) (P.faults report.new)) (Unit {0})) }
@@ -129,10 +136,9 @@ fn tell_class<T: Sink, P: Sink>(
     ensures text_falls { T.faults text.old ≤ T.faults text.new }
     ensures report_falls { P.faults report.old ≤ P.faults report.new }
 {
-    if is_class_part(class) {
-        tell_printed(alloc, world, class, text, report)
-    } else {
-        tell_not_yet(class, report)
+    match piece_of_class(alloc, world, class)? {
+        ClassTold::Printed(piece) => tell_printed(&class.this_class, &piece, text, report),
+        ClassTold::Refused(cause) => tell_refused(alloc, &class.this_class, &cause, report),
     }
 }
 
@@ -184,6 +190,7 @@ fn tell_file<T: Sink, P: Sink>(
     text: &mut T,
     report: &mut P,
 ) -> Result<bool, TellStop>
+    requires of_file { IsOfFile (found_of found.now) }
     ensures told { IfOk result (λ refused. TellsPiece (IsFilePiece world.now path.now (found_of found.now)) refused (T.taken text.old) (T.taken text.new) (P.taken report.old) (P.taken report.new)) }
     ensures stopped { IfErr result (λ stop. StopsPiece (IsFilePiece world.now path.now (found_of found.now)) stop (T.taken text.old) (T.taken text.new) (P.taken report.old) (P.taken report.new)) }
     ensures failed { IfErr result (λ stop. StoppedTelling stop (Rose (T.faults text.old) (T.faults text.new)) (Rose (P.faults report.old) (P.faults report.new)) (Unit {0})) }
@@ -199,6 +206,24 @@ fn tell_file<T: Sink, P: Sink>(
     }
 }
 
+/// Tells the piece behind those of the named files; whether it has a line.
+fn tell_last<P: Sink>(alloc: Global, files: &FoundFiles, report: &mut P) -> Result<bool, TellStop>
+    requires library { length files.now.library.items ≡ length files.now.paths.items }
+    ensures told { (text : Option (List ℕ)) → IfOk result (λ refused. TellsPiece (IsLastPiece (finds_of files.now)) refused text text (P.taken report.old) (P.taken report.new)) }
+    ensures stopped { (text : Option (List ℕ)) → IfErr result (λ stop. StopsPiece (IsLastPiece (finds_of files.now)) stop text text (P.taken report.old) (P.taken report.new)) }
+    ensures failed { IfErr result (λ stop. StoppedTelling stop ⊥ (Rose (P.faults report.old) (P.faults report.new)) (Unit {0})) }
+    ensures report_falls { P.faults report.old ≤ P.faults report.new }
+{
+    let lines = last_lines(alloc, files)?;
+    if lines.is_empty() {
+        return Ok(false);
+    }
+    match put_piece(report, lines.as_slice()) {
+        Ok(()) => Ok(true),
+        Err(Failed) => Err(TellStop::Report),
+    }
+}
+
 /// Tells the pieces of files of these names, in order, and then the last piece; whether one has a line.
 pub fn tell_files<T: Sink, P: Sink>(
     alloc: Global,
@@ -208,8 +233,10 @@ pub fn tell_files<T: Sink, P: Sink>(
     report: &mut P,
 ) -> Result<bool, TellStop>
     requires number { length files.now.found.items ≡ length named.now }
-    ensures told { IfOk result (λ refused. ToldAll refused (T.taken text.old) (T.taken text.new) (P.taken report.old) (P.taken report.new) (map string_bytes named.now) (all_found files.now.found.items) files.now.world) }
-    ensures stopped { IfErr result (λ stop. StoppedTelling stop (ToldFront InText (T.taken text.old) (T.taken text.new) (P.taken report.old) (P.taken report.new) (map string_bytes named.now) (all_found files.now.found.items) files.now.world) (ToldFront InLines (T.taken text.old) (T.taken text.new) (P.taken report.old) (P.taken report.new) (map string_bytes named.now) (all_found files.now.found.items) files.now.world) (ToldSome (T.taken text.old) (T.taken text.new) (P.taken report.old) (P.taken report.new) (map string_bytes named.now) (all_found files.now.found.items) files.now.world)) }
+    requires library { length files.now.library.items ≡ length files.now.paths.items }
+    requires of_files { All (λ found. IsOfFile (found_of found)) files.now.found.items }
+    ensures told { IfOk result (λ refused. ToldAll refused (T.taken text.old) (T.taken text.new) (P.taken report.old) (P.taken report.new) (map string_bytes named.now) (finds_of files.now) files.now.world) }
+    ensures stopped { IfErr result (λ stop. StoppedTelling stop (ToldFront InText (T.taken text.old) (T.taken text.new) (P.taken report.old) (P.taken report.new) (map string_bytes named.now) (finds_of files.now) files.now.world) (ToldFront InLines (T.taken text.old) (T.taken text.new) (P.taken report.old) (P.taken report.new) (map string_bytes named.now) (finds_of files.now) files.now.world) (ToldSome (T.taken text.old) (T.taken text.new) (P.taken report.old) (P.taken report.new) (map string_bytes named.now) (finds_of files.now) files.now.world)) }
     ensures failed { IfErr result (λ stop. StoppedTelling stop (Rose (T.faults text.old) (T.faults text.new)) (Rose (P.faults report.old) (P.faults report.new)) (Unit {0})) }
 
     // What the call leaves.
@@ -229,5 +256,6 @@ pub fn tell_files<T: Sink, P: Sink>(
         )?;
         refused |= one;
     }
-    Ok(refused)
+    let last = tell_last(alloc, files, report)?;
+    Ok(refused | last)
 }

@@ -1,106 +1,194 @@
-//! The files of an order, loaded by name.
+//! The files of an order, loaded by name: those that are named, the list of library files, and those that it has.
 
-ghost use Rattle.std.specs.Prelude.{◌≡◌, ◌≤◌, ◌<◌, ◌+◌, ◌⊎◌, length, map, IfSome, IfOk, OnOk, IfErr};
+ghost use Rattle.std.specs.Prelude.{◌≡◌, ◌≤◌, ◌+◌, [], Some, None, length, map, take, IfOk, OnOk, IfErr};
 ghost use Rattle.std.specs.String.{string_bytes};
-ghost use Rattle.dj_outer.specs.Count.{Rose};
-ghost use Rattle.dj_outer.specs.Files.{HasFile, with_asked};
-ghost use Rattle.dj_load.specs.HeldFiles.{AreContents, most_bytes, most_files, most_together};
+ghost use Rattle.std.specs.Option.{option_map};
+ghost use Rattle.dj_load.specs.HeldFiles.{OfDue, listed_by, most_files, paths_in};
 ghost use Rattle.dj_load.specs.Loads.{AsksFront, IsTooMuch, ReadFails, asked_with};
-ghost use Rattle.dj_load.specs.Loading.{Stopped, StoppedAt, contents_of};
+ghost use Rattle.dj_load.specs.Loading.{AreLoaded, IsWithin, LoadsLibrary, LoadsMore, Stopped, StopsAfter, StopsLibrary, contents_of, paths_of};
 
-use dj_outer::{Files, LoadFault, Loaded};
-use std::alloc::{AllocError, AllocFailed, Global};
+use crate::loads::{LoadStop, Loads, MOST_FILES};
+use dj_outer::Files;
+use std::alloc::{AllocError, Global};
+use std::str;
 
-/// The most bytes that a file may have.
-const MOST_BYTES: usize = 16_777_216;
-
-/// The most bytes that all files together may have.
-const MOST_TOGETHER: usize = 268_435_456;
-
-/// The most files that may be named.
-const MOST_FILES: u32 = 4096;
-
-/// Why not all files were loaded.
+/// What is found of the list of library files, and these.
 #[derive(Drop)]
-pub enum LoadStop {
-    /// The load at this place failed.
-    Fault(u32),
-    /// The file at this place is too large, or is with those before it, or there are too many.
-    Over(u32),
-    Memory(AllocError),
+pub struct Library {
+    /// The path of the list, where it isn't UTF-8.
+    pub unread: Option<String>,
+    /// The paths that the list has.
+    pub paths: Vec<String>,
+    /// The bytes of the file of each.
+    pub contents: Vec<Vec<u8>>,
 }
 
-impl<T: Drop> From<AllocFailed<T>> for LoadStop {
-    ghost use Rattle.std.specs.Prelude.{◌≡◌, alloc_error};
-    ghost use Rattle.dj_load.specs.declared.loading.LoadStop.TheVariants.{Memory};
+/// The bytes of the files of an order.
+#[derive(Drop)]
+pub struct OrderFiles {
+    pub named: Vec<Vec<u8>>,
+    pub library: Library,
+}
 
-    ghost from_gives = { λ _ stop. stop ≡ Memory alloc_error };
-
-    fn from(_: AllocFailed<T>) -> LoadStop {
-        LoadStop::Memory(AllocError)
+/// The paths in a text, but no more than one past the most files.
+fn paths_in(alloc: Global, text: &str) -> Result<Vec<String>, AllocError>
+    ensures paths { IfOk result (λ paths. map string_bytes paths.items ≡ take (most_files + 1) (paths_in text.now)) }
+{
+    let mut paths = Vec::new(alloc);
+    for line in text.lines() {
+        if paths.len() > MOST_FILES as usize {
+            return Ok(paths);
+        }
+        if !line.is_empty() {
+            paths.push(String::from_str(alloc, line)?)?;
+        }
     }
+    Ok(paths)
 }
 
-/// The bytes of the file of this name, which stands at this place, behind files of so many bytes together.
-fn load_one<F: Files>(
+/// The bytes of the files of these names, in order.
+fn load_all<F: Files>(
     alloc: Global,
+    loads: &mut Loads,
+    named: &[String],
     files: &mut F,
-    name: &str,
-    place: u32,
-    used: usize,
-) -> Result<Vec<u8>, LoadStop>
-    requires room { used ≤ most_together }
-    ensures loaded { IfOk result (λ bytes. HasFile (F.held files.old) name.now (λ file. file ≡ bytes.items)) }
-    ensures small { IfOk result (λ bytes. length bytes.items ≤ most_bytes) }
-    ensures together { IfOk result (λ bytes. used + length bytes.items ≤ most_together) }
-    ensures asked { OnOk result (F.asked files.new ≡ with_asked (F.asked files.old) name.now) }
-    ensures stopped { IfErr result (λ stop. StoppedAt place stop (Rose (F.faults files.old) (F.faults files.new)) (HasFile (F.held files.old) name.now (λ file. (most_bytes < length file) ⊎ (most_together < used + length file))) (F.asked files.new ≡ with_asked (F.asked files.old) name.now) (F.asked files.new ≡ F.asked files.old)) }
+) -> Result<Vec<Vec<u8>>, LoadStop>
+    requires within { IsWithin loads.old }
+    ensures loaded { IfOk result (λ contents. LoadsMore (F.held files.old) loads.old loads.new (F.asked files.old) (F.asked files.new) (F.faults files.old) (F.faults files.new) (map string_bytes named.now) (contents_of contents.items)) }
+    ensures counted { OnOk result (loads.new.place ≡ loads.old.place + length named.now) }
+    ensures number { IfOk result (λ contents. length contents.items ≡ length named.now) }
+    ensures within { OnOk result (IsWithin loads.new) }
+    ensures stopped { IfErr result (StopsAfter (F.held files.old) loads.old (F.asked files.old) (F.asked files.new) (F.faults files.old) (F.faults files.new) (map string_bytes named.now)) }
 
     // What the call leaves.
     ensures kept { F.held files.new ≡ F.held files.old }
     ensures never_falls { F.faults files.old ≤ F.faults files.new }
 {
-    match files.load(alloc, name, MOST_BYTES) {
-        Ok(Loaded::Whole(bytes)) => {
-            if bytes.len() > MOST_TOGETHER - used {
-                return Err(LoadStop::Over(place));
-            }
-            Ok(bytes)
-        }
-        Ok(Loaded::Over) => Err(LoadStop::Over(place)),
-        Err(LoadFault::Failed) => Err(LoadStop::Fault(place)),
-        Err(LoadFault::Memory(error)) => Err(LoadStop::Memory(error)),
+    let mut contents = Vec::new(alloc);
+    for name in named {
+        let bytes = loads.load(alloc, name.as_str(), files)?;
+        contents.push(bytes)?;
     }
+    Ok(contents)
 }
 
-/// The bytes of the files of these names, in order.
-pub fn load_files<F: Files>(
+/// The library files that a list of this text has.
+fn load_listed<F: Files>(
     alloc: Global,
-    named: &[String],
+    loads: &mut Loads,
+    text: &str,
     files: &mut F,
-) -> Result<Vec<Vec<u8>>, LoadStop>
-    ensures loaded { IfOk result (λ contents. IfSome (F.held files.old) (λ held. AreContents held (map string_bytes named.now) (contents_of contents.items))) }
-    ensures number { IfOk result (λ contents. length contents.items ≡ length named.now) }
-    ensures few { OnOk result (length (map string_bytes named.now) ≤ most_files) }
-    ensures asked_all { OnOk result (F.asked files.new ≡ asked_with (F.asked files.old) (map string_bytes named.now)) }
-    ensures stopped { IfErr result (λ stop. Stopped stop (ReadFails (F.held files.old) (map string_bytes named.now) (F.asked files.old) (F.asked files.new) (F.faults files.old) (F.faults files.new)) (IsTooMuch (F.held files.old) (map string_bytes named.now) (F.asked files.old) (F.asked files.new))) }
+) -> Result<Library, LoadStop>
+    requires within { IsWithin loads.old }
+    ensures read { IfOk result (λ library. library.unread ≡ None) }
+    ensures paths { IfOk result (λ library. paths_of library ≡ paths_in text.now) }
+    ensures loaded { IfOk result (λ library. LoadsMore (F.held files.old) loads.old loads.new (F.asked files.old) (F.asked files.new) (F.faults files.old) (F.faults files.new) (paths_in text.now) (contents_of library.contents.items)) }
+    ensures number { IfOk result (λ library. length library.contents.items ≡ length library.paths.items) }
+    ensures within { OnOk result (IsWithin loads.new) }
+    ensures stopped { IfErr result (StopsAfter (F.held files.old) loads.old (F.asked files.old) (F.asked files.new) (F.faults files.old) (F.faults files.new) (paths_in text.now)) }
 
-    // What the call asks for and leaves.
-    ensures asked { AsksFront (F.asked files.old) (F.asked files.new) (map string_bytes named.now) }
+    // What the call leaves.
     ensures kept { F.held files.new ≡ F.held files.old }
     ensures never_falls { F.faults files.old ≤ F.faults files.new }
 {
-    let mut contents = Vec::new(alloc);
-    let mut place: u32 = 0;
-    let mut used: usize = 0;
-    for name in named {
-        if place == MOST_FILES {
-            return Err(LoadStop::Over(place));
-        }
-        let bytes = load_one(alloc, files, name.as_str(), place, used)?;
-        used += bytes.len();
-        contents.push(bytes)?;
-        place += 1;
+    let paths = paths_in(alloc, text)?;
+    let contents = load_all(alloc, loads, paths.as_slice(), files)?;
+    Ok(Library {
+        unread: None,
+        paths,
+        contents,
+    })
+}
+
+/// The list of library files, and the files that it has.
+fn load_library<F: Files>(
+    alloc: Global,
+    loads: &mut Loads,
+    list: &str,
+    files: &mut F,
+) -> Result<Library, LoadStop>
+    requires within { IsWithin loads.old }
+    ensures loaded { IfOk result (LoadsLibrary (F.held files.old) loads.old loads.new (F.asked files.old) (F.asked files.new) (F.faults files.old) (F.faults files.new) (Some list.now)) }
+    ensures number { IfOk result (λ library. length library.contents.items ≡ length library.paths.items) }
+    ensures within { OnOk result (IsWithin loads.new) }
+    ensures stopped { IfErr result (StopsLibrary (F.held files.old) loads.old (F.asked files.old) (F.asked files.new) (F.faults files.old) (F.faults files.new) (Some list.now)) }
+
+    // What the call leaves.
+    ensures kept { F.held files.new ≡ F.held files.old }
+    ensures never_falls { F.faults files.old ≤ F.faults files.new }
+{
+    let bytes = loads.load(alloc, list, files)?;
+    match str::from_utf8(bytes.as_slice()) {
+        Ok(text) => load_listed(alloc, loads, text, files),
+        Err(_) => Ok(Library {
+            unread: Some(String::from_str(alloc, list)?),
+            paths: Vec::new(alloc),
+            contents: Vec::new(alloc),
+        }),
     }
-    Ok(contents)
+}
+
+/// No library files.
+fn no_library(alloc: Global) -> Library
+    ensures read { result.unread ≡ None }
+    ensures paths { paths_of result ≡ [] }
+    ensures contents { result.contents.items ≡ [] }
+{
+    Library {
+        unread: None,
+        paths: Vec::new(alloc),
+        contents: Vec::new(alloc),
+    }
+}
+
+/// The list of library files, if one is named, and the files that it has.
+fn load_behind<F: Files>(
+    alloc: Global,
+    loads: &mut Loads,
+    list: &Option<String>,
+    files: &mut F,
+) -> Result<Library, LoadStop>
+    requires within { IsWithin loads.old }
+    ensures loaded { IfOk result (LoadsLibrary (F.held files.old) loads.old loads.new (F.asked files.old) (F.asked files.new) (F.faults files.old) (F.faults files.new) (option_map string_bytes list.now)) }
+    ensures number { IfOk result (λ library. length library.contents.items ≡ length library.paths.items) }
+    ensures within { OnOk result (IsWithin loads.new) }
+    ensures stopped { IfErr result (StopsLibrary (F.held files.old) loads.old (F.asked files.old) (F.asked files.new) (F.faults files.old) (F.faults files.new) (option_map string_bytes list.now)) }
+
+    // What the call leaves.
+    ensures kept { F.held files.new ≡ F.held files.old }
+    ensures never_falls { F.faults files.old ≤ F.faults files.new }
+{
+    match list {
+        Some(list) => load_library(alloc, loads, list.as_str(), files),
+        None => Ok(no_library(alloc)),
+    }
+}
+
+/// The bytes of the files of an order: those of these names, then the list of library files, if one is named, and then
+/// those that it has.
+pub fn load_order<F: Files>(
+    alloc: Global,
+    named: &[String],
+    list: &Option<String>,
+    files: &mut F,
+) -> Result<OrderFiles, LoadStop>
+    ensures loaded { IfOk result (AreLoaded (F.held files.old) (map string_bytes named.now) (option_map string_bytes list.now) (F.asked files.old) (F.asked files.new)) }
+    ensures number { IfOk result (λ order. length order.named.items ≡ length named.now) }
+    ensures library { IfOk result (λ order. length order.library.contents.items ≡ length order.library.paths.items) }
+    ensures few { IfOk result (λ order. length order.named.items + length order.library.contents.items ≤ most_files) }
+    ensures read { IfErr result (λ stop. Stopped stop (λ place. OfDue (F.held files.old) (map string_bytes named.now) (option_map string_bytes list.now) (λ due. ReadFails (F.held files.old) due (F.asked files.old) (F.asked files.new) (F.faults files.old) (F.faults files.new) place)) (λ place. OfDue (F.held files.old) (map string_bytes named.now) (option_map string_bytes list.now) (λ due. IsTooMuch (F.held files.old) due (F.asked files.old) (F.asked files.new) place))) }
+
+    // What the call asks for and leaves.
+    ensures asked_all { OnOk result (OfDue (F.held files.old) (map string_bytes named.now) (option_map string_bytes list.now) (λ due. F.asked files.new ≡ asked_with (F.asked files.old) due)) }
+    ensures asked { OfDue (F.held files.old) (map string_bytes named.now) (option_map string_bytes list.now) (AsksFront (F.asked files.old) (F.asked files.new)) }
+    ensures kept { F.held files.new ≡ F.held files.old }
+    ensures never_falls { F.faults files.old ≤ F.faults files.new }
+{
+    let mut loads = Loads::new();
+    let contents = load_all(alloc, &mut loads, named, files)?;
+    let library = load_behind(alloc, &mut loads, list, files)?;
+    Ok(OrderFiles {
+        named: contents,
+        library,
+    })
 }

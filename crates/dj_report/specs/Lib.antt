@@ -1,4 +1,3 @@
 -- What the public contracts rest on, in reading order.
 pub mod Status
-pub mod Words
 pub mod Report

@@ -4,8 +4,8 @@ use Rattle.std.specs.List.{flat_map}
 use Rattle.std.specs.Str.{chars}
 use Rattle.std.specs.Char.Escape.{encode_utf16}
 use Rattle.std.specs.Fmt.{decimal}
-use Rattle.dj_names.specs.Types.{Descriptor}
-use Rattle.dj_names.specs.Descriptors.{spell_descriptor}
+use Rattle.dj_names.specs.Types.{Descriptor, JType}
+use Rattle.dj_names.specs.Descriptors.{spell_descriptor, spell_type}
 use Rattle.dj_names.specs.Shown.{show_units}
 use Rattle.dj_pool.specs.declared.fault.BrokenKind.{BrokenKind}
 use Rattle.dj_pool.specs.declared.fault.BrokenKind.TheVariants as broken
@@ -15,20 +15,32 @@ use Rattle.dj_verify.specs.declared.rule.Rule.{Rule}
 use Rattle.dj_verify.specs.declared.rule.Rule.TheVariants as rule
 use Rattle.dj_world.specs.declared.fault.ClashKind.{ClashKind}
 use Rattle.dj_world.specs.declared.fault.ClashKind.TheVariants as clash
-use Rattle.dj_report.specs.declared.status.UsageKind.{UsageKind}
-use Rattle.dj_report.specs.declared.status.UsageKind.TheVariants as kind
+use Rattle.dj_causes.specs.declared.cause.ClassCause.{ClassCause}
+use Rattle.dj_causes.specs.declared.cause.ClassCause.TheVariants as class_cause
+use Rattle.dj_causes.specs.declared.cause.FieldCause.{FieldCause}
+use Rattle.dj_causes.specs.declared.cause.FieldCause.TheVariants as field_cause
+use Rattle.dj_causes.specs.declared.cause.Cause.{Cause}
+use Rattle.dj_causes.specs.declared.cause.Cause.TheVariants as cause
+use Rattle.dj_words.specs.declared.order.UsageKind.{UsageKind}
+use Rattle.dj_words.specs.declared.order.UsageKind.TheVariants as kind
 
 -- a line of the report: on a class by its name, on a method by its class's name, its own name and its
 -- descriptor, with an offset in its code and, where its code is bad or not verified, with what is wrong there,
+-- on a field by its class's name, its own name and its type, on each of these that is refused with the cause,
 -- on a file that is broken by its path, with what is wrong and an offset, on one whose class clashes with others
--- by its path, with how, on the words, and on a file by its place
+-- by its path, with how, on a list of library files that isn't UTF-8 by its path, on the words, and on a file by
+-- its place
 pub data Line : Type 0 where
   NotYetClass : List ℕ → Line
   NotYetMethod : List ℕ → List ℕ → Descriptor → ℕ → Line
   BadMethod : List ℕ → List ℕ → Descriptor → BadKind → ℕ → Line
   UnverifiedMethod : List ℕ → List ℕ → Descriptor → Rule → ℕ → Line
+  RefusedClass : List ℕ → ClassCause → Line
+  RefusedField : List ℕ → List ℕ → JType → FieldCause → Line
+  RefusedMethod : List ℕ → List ℕ → Descriptor → Cause → Line
   Broken : List ℕ → BrokenKind → ℕ → Line
   Clash : List ℕ → ClashKind → Line
+  Unread : List ℕ → Line
   Usage : UsageKind → Line
   Read : ℕ → Line
   Much : ℕ → Line
@@ -82,6 +94,10 @@ rule_text rule.Target = codes "Target"
 rule_text rule.Handler = codes "Handler"
 rule_text rule.Past = codes "Past"
 
+-- how a line names a field of a class
+abbrev pub shown_field : List ℕ → List ℕ → JType → List ℕ
+shown_field class name type = show_units class ++ codes "." ++ show_units name ++ codes ":" ++ show_units (spell_type type)
+
 -- how a line names a method of a class
 abbrev pub shown_method : List ℕ → List ℕ → Descriptor → List ℕ
 shown_method class name descriptor = show_units class ++ codes "." ++ show_units name ++ show_units (spell_descriptor descriptor)
@@ -98,15 +114,58 @@ bad_tail kind pc = codes " bad " ++ bad_text kind ++ codes " " ++ decimal pc ++ 
 abbrev pub unverified_tail : Rule → ℕ → List ℕ
 unverified_tail broken pc = codes " unverified " ++ rule_text broken ++ codes " " ++ decimal pc ++ 10 ∷ []
 
+-- the end of a line by a cause that is a word, by one with a number behind the word, and by one with a name
+abbrev pub plain_tail : List ℕ → List ℕ
+plain_tail cause = codes " refused " ++ cause ++ 10 ∷ []
+
+abbrev pub numbered_tail : List ℕ → ℕ → List ℕ
+numbered_tail cause number = codes " refused " ++ cause ++ codes " " ++ decimal number ++ 10 ∷ []
+
+abbrev pub named_tail : List ℕ → List ℕ → List ℕ
+named_tail cause name = codes " refused " ++ cause ++ codes " " ++ show_units name ++ 10 ∷ []
+
+-- the end of the line on a class that is refused, with the name that the cause is about
+abbrev pub refused_class_tail : ClassCause → List ℕ
+refused_class_tail class_cause.Enum = plain_tail (codes "Enum")
+refused_class_tail class_cause.Annotation = plain_tail (codes "Annotation")
+refused_class_tail class_cause.Package = plain_tail (codes "Package")
+refused_class_tail class_cause.Root = plain_tail (codes "Root")
+refused_class_tail (class_cause.Name name) = named_tail (codes "Name") name
+refused_class_tail (class_cause.Constant name) = named_tail (codes "Constant") name
+
+-- the end of the line on a field that is refused, with the name that the cause is about
+abbrev pub refused_field_tail : FieldCause → List ℕ
+refused_field_tail (field_cause.Name name) = named_tail (codes "Name") name
+refused_field_tail field_cause.Signature = plain_tail (codes "Signature")
+refused_field_tail field_cause.Constant = plain_tail (codes "Constant")
+
+-- the end of the line on a method that is refused, with the offset in its code, the name or the size that the cause is about
+abbrev pub refused_method_tail : Cause → List ℕ
+refused_method_tail (cause.Float pc) = numbered_tail (codes "Float") pc
+refused_method_tail (cause.Dynamic pc) = numbered_tail (codes "Dynamic") pc
+refused_method_tail (cause.Missing class) = named_tail (codes "Missing") class
+refused_method_tail (cause.Name name) = named_tail (codes "Name") name
+refused_method_tail cause.Signature = plain_tail (codes "Signature")
+refused_method_tail (cause.Member pc) = numbered_tail (codes "Member") pc
+refused_method_tail (cause.Interface pc) = numbered_tail (codes "Interface") pc
+refused_method_tail (cause.Monitor pc) = numbered_tail (codes "Monitor") pc
+refused_method_tail (cause.BeforeSuper pc) = numbered_tail (codes "BeforeSuper") pc
+refused_method_tail (cause.Unborn pc) = numbered_tail (codes "Unborn") pc
+refused_method_tail (cause.Large size) = numbered_tail (codes "Large") size
+
 -- a line with its end
 abbrev pub line_text : Line → List ℕ
 line_text (NotYetClass class) = show_units class ++ codes " notyet" ++ 10 ∷ []
 line_text (NotYetMethod class name descriptor pc) = shown_method class name descriptor ++ not_yet_tail pc
 line_text (BadMethod class name descriptor kind pc) = shown_method class name descriptor ++ bad_tail kind pc
 line_text (UnverifiedMethod class name descriptor broken pc) = shown_method class name descriptor ++ unverified_tail broken pc
+line_text (RefusedClass class reason) = show_units class ++ refused_class_tail reason
+line_text (RefusedField class name type reason) = shown_field class name type ++ refused_field_tail reason
+line_text (RefusedMethod class name descriptor reason) = shown_method class name descriptor ++ refused_method_tail reason
 line_text (Broken path kind offset) =
     show_units (path_units path) ++ codes " broken " ++ broken_text kind ++ codes " " ++ decimal offset ++ 10 ∷ []
 line_text (Clash path kind) = show_units (path_units path) ++ codes " clash " ++ clash_text kind ++ 10 ∷ []
+line_text (Unread path) = show_units (path_units path) ++ codes " list" ++ 10 ∷ []
 line_text (Usage kind) = codes "usage " ++ kind_text kind ++ 10 ∷ []
 line_text (Read place) = codes "read " ++ decimal place ++ 10 ∷ []
 line_text (Much place) = codes "much " ++ decimal place ++ 10 ∷ []

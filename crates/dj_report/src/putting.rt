@@ -8,7 +8,7 @@ ghost use Rattle.dj_names.specs.Shown.{show_unit, show_units};
 ghost use Rattle.dj_outer.specs.Sink.{Puts};
 
 use arrayvec::ArrayVec;
-pub use descriptors::put_descriptor;
+pub use descriptors::{put_descriptor, put_type};
 use dj_names::{hex_digit, is_shown_plain};
 use dj_outer::{Failed, Sink};
 

@@ -6,12 +6,12 @@ ghost use Rattle.dj_outer.specs.Sink.{Puts};
 ghost use Rattle.dj_report.specs.Report.{Line, bad_tail, bad_text, broken_text, clash_text, kind_text, line_text, not_yet_tail, path_units, rule_text, shown_method, unverified_tail};
 
 use crate::putting::{put_descriptor, put_piece, put_units};
-use crate::status::UsageKind;
 use dj_instructions::BadKind;
 use dj_names::{ClassName, Descriptor, Units};
 use dj_outer::{Failed, Sink};
 use dj_pool::BrokenKind;
 use dj_verify::Rule;
+use dj_words::UsageKind;
 use dj_world::ClashKind;
 use std::alloc::{AllocError, Global};
 
@@ -78,6 +78,14 @@ pub fn clash_line(alloc: Global, path: &str, kind: ClashKind) -> Result<Vec<u8>,
     let path = path_units(alloc, path)?;
     let kind = clash_text(kind);
     Ok(format!(in alloc; "{path} clash {kind}\n")?.into_bytes())
+}
+
+/// The line on a list of library files of this path that isn't UTF-8.
+pub fn list_line(alloc: Global, path: &str) -> Result<Vec<u8>, AllocError>
+    ensures line { IfOk result (λ line. line.items ≡ line_text (Line.Unread path.now)) }
+{
+    let path = path_units(alloc, path)?;
+    Ok(format!(in alloc; "{path} list\n")?.into_bytes())
 }
 
 /// Puts the line on a class of which nothing is printed yet.

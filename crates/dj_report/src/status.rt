@@ -2,18 +2,7 @@
 
 ghost use Rattle.std.specs.Prelude.{◌≡◌};
 
-/// What is wrong with the words.
-#[derive(Clone, Copy, Debug, PartialEq, Eq)]
-pub enum UsageKind {
-    /// The command doesn't take them.
-    Words,
-    /// They name no file.
-    NoFile,
-    /// They give two orders.
-    TwoOrders,
-    /// A number isn't one.
-    Number,
-}
+use dj_words::UsageKind;
 
 /// How a run ended; its exit statuses are 0 to 6 in this order. A place is that of a file in the order of loading.
 #[derive(Clone, Copy, Debug, PartialEq, Eq)]

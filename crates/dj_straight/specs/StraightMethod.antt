@@ -3,8 +3,9 @@ use Rattle.std.specs.Prelude.{◌≡◌, ℕ, ◌≤◌, ◌==◌, Bool, false, 
 use Rattle.std.specs.List.{Any}
 use Rattle.dj_names.specs.Types.{JType, Int, Method, parameters_of}
 use Rattle.dj_names.specs.Identifiers.{IsIdentifier}
-use Rattle.dj_syntax.specs.Trees.{Exp, Return, And, Empty, Body}
-use Rattle.dj_syntax.specs.UnitText.{is_interface, method_bits}
+use Rattle.dj_syntax.specs.Trees.{Exp, Return, And, Empty, Body, MethodText}
+use Rattle.dj_syntax.specs.UnitText.{is_interface}
+use Rattle.dj_syntax.specs.WellFormed.{held_method}
 use Rattle.dj_class.specs.Described.{ClassOf, MethodOf}
 use Rattle.dj_code.specs.MethodCode.{Code}
 use Rattle.dj_code.specs.ReadCode.{SpellsCode}
@@ -59,10 +60,14 @@ pub data IsNotYet (class : ClassOf) (before : List MethodOf) (method : MethodOf)
   breaks : {parameters : ℕ} {code : Code} {pc : ℕ} → (spelled : SpellsCode class method code) → IsCandidate class before method parameters code
       → BreaksAt parameters code.max_stack spelled.content.code code.instructions pc → IsNotYet class before method pc
 
--- the body of a straight method: the head of its method, and one `return` of its expression
+-- a method with a body, and all flags of its file
+abbrev pub with_body : MethodOf → Body → MethodText
+with_body method body = record { flags = method.flags; name = method.name; descriptor = method.descriptor; thrown = method.thrown; body = Some body }
+
+-- the body of a straight method: the head of its method, with the flags that its text gives back, and one `return` of its expression
 pub record IsBodyOf (owner : ClassOf) (method : MethodOf) (exp : Exp) (body : Body) : Type 0 where
   pub class : body.class ≡ owner.this_class
-  pub flags : body.flags ≡ bit_and method.flags (method_bits false)
+  pub flags : body.flags ≡ held_method (is_interface owner.flags) (with_body method body)
   pub name : body.name ≡ method.name
   pub descriptor : body.descriptor ≡ method.descriptor
   pub thrown : body.thrown ≡ method.thrown

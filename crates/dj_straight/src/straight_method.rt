@@ -3,15 +3,17 @@
 ghost use Rattle.std.specs.Prelude.{◌≡◌, ◌<◌, ◌^◌, List, ◌∷◌, [], ◌++◌, replicate, Some, IfOk, OnOk, IsTrue, ◌↔◌, length};
 ghost use Rattle.dj_names.specs.Types as types;
 ghost use Rattle.dj_names.specs.Types.{parameters_of, view_descriptor};
+ghost use Rattle.dj_syntax.specs.Trees as trees;
 ghost use Rattle.dj_syntax.specs.Trees.{view_body, view_exp};
-ghost use Rattle.dj_syntax.specs.WellFormed.{IsWellFormedExp};
+ghost use Rattle.dj_syntax.specs.UnitText.{is_interface};
+ghost use Rattle.dj_syntax.specs.WellFormed.{IsWellFormedExp, held_method};
 ghost use Rattle.dj_values.specs.Fits.{is_static};
 ghost use Rattle.dj_class.specs.Described.{MethodOf};
 ghost use Rattle.dj_class.specs.Views.{view_class, view_method};
 ghost use Rattle.dj_code.specs.MethodCode.{view_code};
 ghost use Rattle.dj_code.specs.ReadCode.{SpellsCode};
 ghost use Rattle.dj_straight.specs.DeclaredMethods.{Holds};
-ghost use Rattle.dj_straight.specs.StraightMethod.{IsBodyOf, IsDeclared, IsPlainCode, is_public};
+ghost use Rattle.dj_straight.specs.StraightMethod.{IsBodyOf, IsDeclared, IsPlainCode, is_public, with_body};
 ghost use Rattle.dj_straight.specs.Judged.{HasPlainHead, IsJudged, IsJudgedCode, IsSpelledBy, IfStraight};
 
 use crate::declared::Declared;
@@ -20,8 +22,12 @@ use crate::straight::{Rebuilt, straight_body};
 use dj_class::{ClassFile, Method};
 use dj_code::{Code, read_content};
 use dj_names::{Items, copy_names, is_identifier};
-use dj_syntax::{Body, Exp, Stm, is_interface, method_bits};
+use dj_syntax::{Body, Exp, Stm, is_initialiser, is_interface, method_bits};
 use std::alloc::{AllocError, Global};
+
+const PUBLIC: u16 = 0x0001;
+
+const STATIC: u16 = 0x0008;
 
 /// What is found of a method.
 #[derive(Drop)]
@@ -36,14 +42,14 @@ pub enum Judged {
 fn is_static(flags: u16) -> bool
     ensures static_flag { result ≡ is_static flags }
 {
-    flags & 0x0008 != 0
+    flags & STATIC != 0
 }
 
 /// Whether method flags have ACC_PUBLIC.
 fn is_public(flags: u16) -> bool
     ensures public_flag { result ≡ is_public flags }
 {
-    flags & 0x0001 != 0
+    flags & PUBLIC != 0
 }
 
 /// Whether the head of a method of a class is that of a straight one, its parameters aside.
@@ -147,6 +153,17 @@ pub fn judge<'a>(
     }
 }
 
+/// The flags that the text of a method with a body gives back.
+fn held_flags(class: &ClassFile, method: &Method) -> u16
+    ensures held { (body : trees.Body) → result ≡ held_method (is_interface class.now.flags) (with_body (view_method method.now) body) }
+{
+    if is_initialiser(&method.name) {
+        return STATIC;
+    }
+    let interface = is_interface(class.flags);
+    method.flags & method_bits(interface) | if interface { PUBLIC } else { 0 }
+}
+
 /// The body that returns an expression, with the head of its method.
 pub fn returning_body(
     alloc: Global,
@@ -160,7 +177,7 @@ pub fn returning_body(
     statements.push(Stm::Return(Some(exp)))?;
     Ok(Body {
         class: class.this_class.copy(alloc)?,
-        flags: method.flags & method_bits(false),
+        flags: held_flags(class, method),
         name: method.name.copy(alloc)?,
         descriptor: method.descriptor.copy(alloc)?,
         thrown: copy_names(alloc, method.thrown.as_slice())?,

@@ -1,8 +1,8 @@
 -- The body of a straight method shows what its code shows.
-use Rattle.std.proofs.Common.{◌≡◌, ℕ, zero, suc, ◌-◌, ◌*◌, ◌<◌, ◌≤◌, ◌==◌, true, false, not, List, [], ◌∷◌, ◌++◌, inl, length, map, replicate, Option, Some, None, refl, sym, ap, ◌∙◌, subst, arith, append_assoc}
-use Rattle.std.specs.Prelude.{ℤ, pos, slice_get, slice_index_or, bit_and}
-use Rattle.std.specs.Int.{w32, bit_at, int_wrapping_add, int_wrapping_sub, int_wrapping_mul}
-use Rattle.std.proofs.lemmas.Nat.Bits.{and_pow, bit_at_and, bit_at-lt}
+use Rattle.std.proofs.Common.{◌≡◌, ℕ, zero, suc, ◌-◌, ◌<◌, ◌≤◌, ◌==◌, Bool, true, false, not, List, [], ◌∷◌, ◌++◌, inl, length, map, replicate, Option, Some, None, refl, sym, ap, ◌∙◌, subst, arith, append_assoc}
+use Rattle.std.specs.Prelude.{ℤ, pos, slice_get, slice_index_or, bit_and, bit_or, if◌then◌else◌}
+use Rattle.std.specs.Int.{w32, int_wrapping_add, int_wrapping_sub, int_wrapping_mul}
+use Rattle.std.proofs.lemmas.Nat.{and_assoc, and_or_apart}
 use Rattle.dj_names.specs.declared.header.Header.{Header}
 use Rattle.dj_names.specs.declared.members.ClassMembers.{ClassMembers}
 use Rattle.dj_names.specs.Types as types
@@ -12,7 +12,8 @@ use Rattle.dj_syntax.specs.declared.variable.Var.{Var}
 use Rattle.dj_syntax.specs.declared.variable.VarKind.TheVariants as variable
 use Rattle.dj_syntax.specs.Trees.{Exp, Body, Empty, And}
 use Rattle.dj_syntax.specs.Trees as trees
-use Rattle.dj_syntax.specs.UnitText.{method_bits}
+use Rattle.dj_syntax.specs.UnitText.{is_initialiser, is_interface, method_bits}
+use Rattle.dj_syntax.specs.WellFormed.{held_method}
 use Rattle.dj_values.specs.Values.{Value, Int, Long, Null, Ref, Answer, Show, IsBelow}
 use Rattle.dj_values.specs.Values as ends
 use Rattle.dj_values.specs.Fits.{AreValuesOf, is_static, behind_this}
@@ -36,7 +37,7 @@ use Rattle.dj_bytecode.proofs.Growth.{more_shows_more}
 use Rattle.dj_straight.specs.declared.part.Operation.{Operation}
 use Rattle.dj_straight.specs.declared.part.Operation.TheVariants.{Add, Sub, Mul}
 use Rattle.dj_straight.specs.Straight.{Formula, Number, Parameter, Calculation, calc_of, operator, exp_of, postfix, UsesParameters}
-use Rattle.dj_straight.specs.StraightMethod.{IsStraightMethod, IsBodyOf}
+use Rattle.dj_straight.specs.StraightMethod.{IsStraightMethod, IsBodyOf, with_body}
 
 -- ---- numbers
 
@@ -100,12 +101,19 @@ type-is zero slot within = absurd (omega arith)
 type-is (suc count) zero within = refl
 type-is (suc count) (suc slot) within = type-is count slot (omega arith)
 
--- the flags of a body say whether its method is static
-static_kept : (flags : ℕ) → is_static (bit_and flags (method_bits false)) ≡ is_static flags
-static_kept flags =
-    let same : bit_at (bit_and flags 0x053f) 3 ≡ bit_at flags 3 = omega (arith, bit_at_and flags 0x053f 3, bit_at-lt flags 3) in
-    let bits : bit_and (bit_and flags 0x053f) 0x0008 ≡ bit_and flags 0x0008 = and_pow (bit_and flags 0x053f) 3 ∙ ap (λ bit. bit * 8) same ∙ sym (and_pow flags 3) in
-    ap (λ bit. not (bit == 0)) bits
+-- what the text of a method shows of its flags, and what it implies beside them, keep whether it is static
+static_shown : (flags bits implied : ℕ) → bit_and bits 0x0008 ≡ 0x0008 → bit_and implied 0x0008 ≡ 0 → is_static (bit_or (bit_and flags bits) implied) ≡ is_static flags
+static_shown flags bits implied shown apart =
+    ap (λ static. not (static == 0)) (and_or_apart 0x0008 (bit_and flags bits) implied apart ∙ and_assoc 0x0008 flags bits ∙ ap (bit_and flags) shown)
+
+-- the flags of a body say that its method is static
+static_held : (interface : Bool) (method : MethodOf) (body : Body) → is_static method.flags ≡ true → is_static (held_method interface (with_body method body)) ≡ true
+static_held interface method body static = go interface (is_initialiser method.name)
+  where
+    go : (i initialiser : Bool) → is_static (if initialiser then 0x0008 else bit_or (bit_and method.flags (method_bits i)) (if i then 0x0001 else 0)) ≡ true
+    go i true = refl
+    go true false = static_shown method.flags 0x0008 0x0001 refl refl ∙ static
+    go false false = static_shown method.flags 0x053f 0 refl refl ∙ static
 
 -- a method has returned this number, and nothing else was seen
 abbrev returned : ℤ → Show
@@ -297,7 +305,7 @@ module _ (class : ClassOf) (before : List MethodOf) (method : MethodOf) (exp : E
 
   source_returns : (headers : List Header) (numbers : List ℤ) (answers : List Answer) (turns : ℕ) → length numbers ≡ straight.parameters → source_show headers members body (ints numbers) answers turns ≡ returned (meaning numbers straight.formula)
   source_returns headers numbers answers turns as_many =
-      let static : is_static body.flags ≡ true = ap is_static of_method.flags ∙ static_kept method.flags ∙ straight.candidate.static in
+      let static : is_static body.flags ≡ true = ap is_static of_method.flags ∙ static_held (is_interface class.flags) method body straight.candidate.static in
       let descriptor : body.descriptor ≡ Method (replicate (length numbers) types.Int) (Some types.Int) = of_method.descriptor ∙ straight.candidate.descriptor ∙ ap (λ n. Method (replicate n types.Int) (Some types.Int)) (sym as_many) in
       let one : body.statements ≡ And (trees.Return (Some (exp_of straight.formula))) Empty = of_method.returns ∙ ap (λ value. And (trees.Return (Some value)) Empty) straight.tree in
       source-is headers members numbers straight.formula body answers turns (uses numbers as_many) static descriptor one

@@ -73,7 +73,7 @@ fn put_brackets<S: Sink>(sink: &mut S, count: usize) -> Result<(), Failed>
 }
 
 /// Puts a type, all its brackets in one piece.
-fn put_type<S: Sink>(sink: &mut S, kind: &JType) -> Result<(), Failed>
+pub fn put_type<S: Sink>(sink: &mut S, kind: &JType) -> Result<(), Failed>
     ensures puts { Puts result (S.taken sink.old) (S.taken sink.new) (S.faults sink.old) (S.faults sink.new) (show_units (spell_type (view_type kind.now))) }
 {
     let (count, element) = split_brackets(kind);

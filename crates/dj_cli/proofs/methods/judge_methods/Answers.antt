@@ -1,43 +1,44 @@
-use Rattle.std.proofs.Common.{◌≡◌, ◌<◌, ◌⊎◌, length, map, take, arith, All}
-use Rattle.std.specs.Prelude.{string_bytes}
-use Rattle.std.proofs.lemmas.List.{map_push}
+use Rattle.std.proofs.Common.{◌≡◌, ◌<◌, Some, None, length, map, take, arith}
+use Rattle.std.specs.Prelude.{option_map}
+use Rattle.std.proofs.lemmas.List.{length-map, length-take-le, map_push}
 use Rattle.dj_class.specs.Views.{view_class, view_method}
-use Rattle.dj_syntax.specs.Trees as trees
-use Rattle.dj_cli.specs.Methods.{IsToldOf, lines_bytes}
+use Rattle.dj_syntax.specs.Trees.{view_body}
+use Rattle.dj_cli.specs.Lines.{ending_bytes, lines_bytes}
+use Rattle.dj_cli.specs.Methods.{IsToldOf}
 use Rattle.dj_load.proofs.LoadingLemmas.{take_map_more}
-use Rattle.dj_cli.proofs.MethodsLemmas.{judged_none, judged_text, judged_line, all_at}
+use Rattle.dj_cli.proofs.MethodsLemmas.{judged_bare, judged_body, judged_line}
 use Rattle.dj_cli.proofs.TellingLemmas.{lines_bytes-push}
 use Rattle.dj_cli.proofs.methods.judge_methods.Goals as goal
-use Rattle.dj_cli.proofs.methods.judge_methods.Goals.{in-Text+in_ok-push-in-Text, in-Line+in_ok-push-in-Line}
+use Rattle.dj_cli.proofs.methods.judge_methods.Goals.{in-Body+in_ok-push-in-Body, in-Bare+in_ok-push-in-Bare, in-Line+in_ok-push-in-Line+in_ok-push-in-Line-2}
 
-pub loop-method-init : goal.loop-method-init
-loop-method-init c = record {
-  holds = c.new-declared.ensures.none;
-  judged = rw (c.new-texts.ensures, c.new-lines.ensures.items) (judged_none c.args.world.now (view_class c.args.class.now));
-}
-
-pub loop-method-preserved : goal.loop-method-preserved
-loop-method-preserved c =
+pub loop-at-preserved : goal.loop-at-preserved
+loop-at-preserved c =
     let world = c.args.world.now in
     let class = view_class c.args.class.now in
-    let items = c.as_slice-method-items.result.now in
-    let i = c.loop-method.method-index in
-    let method = view_method c.method-item.result in
-    let before = c.loop-method.invariant in
-    let inside : i < length items = omega arith in
-    let more = take_map_more view_method items i c.method-item.result inside c.method-item.is in
-    let all_flags : All (λ these. (these.flags ≡ 0x8) ⊎ (these.flags ≡ 0x9)) (map view_method items) = rw c.as_slice-method-items.ensures c.requires.flags in
-    let flags = all_at view_method (λ these. (these.flags ≡ 0x8) ⊎ (these.flags ≡ 0x9)) items i c.method-item.result all_flags inside c.method-item.is in
-    let told : IsToldOf world class (take i (map view_method items)) method c.in_ok-text.field-0 = c.in_ok-text.ensures.told (take i (map view_method items)) before.holds in
+    let items = c.args.class.now.methods in
+    let at = c.loop-at.at in
+    let item = c.index-methods-at.result in
+    let method = view_method item in
+    let before = c.loop-at.invariant in
+    let inside : at < length c.as_slice-methods.result.now = omega arith in
+    let within : at < length items = rw c.as_slice-methods.ensures at inside in
+    let more = take_map_more view_method items at item within (rw c.as_slice-methods.ensures at c.index-methods-at.is) in
+    let front = take at class.methods in
+    let here : length front ≡ at = length-take-le at class.methods (omega (arith, within, length-map items view_method)) in
+    let told : IsToldOf world class front method c.in_ok-body.field-0 = c.in_ok-body.ensures.told front here before.holds in
+    let bodies = map (option_map view_body) c.loop-at.bodies in
+    let lines = lines_bytes class.this_class c.loop-at.lines.items in
     record {
-      holds = rw more (c.in_ok-text.ensures.declared (take i (map view_method items)) before.holds);
+      holds = rw more (c.in_ok-body.ensures.declared front before.holds);
       judged = elim c.match-branch-2.branch [
-        | in-Text+in_ok-push-in-Text w ↦
-            let text = w.in-Text.text in
-            rw (more, w.texts-is, w.in_ok-push-in-Text.ensures.ok, map_push trees.view_method c.loop-method.texts text, w.lines-is)
-            (judged_text world class (take i (map view_method items)) method (map trees.view_method c.loop-method.texts) (trees.view_method text) (lines_bytes class.this_class c.loop-method.lines.items) flags before.judged (rw w.in-Text.is at told))
-        | in-Line+in_ok-push-in-Line w ↦
-            rw (more, w.texts-is, w.lines-is, w.in_ok-push-in-Line.ensures.items, lines_bytes-push)
-            (judged_line world class (take i (map view_method items)) method (string_bytes w.in-Line.tail) (map trees.view_method c.loop-method.texts) (lines_bytes class.this_class c.loop-method.lines.items) before.judged (rw w.in-Line.is at told))
+        | in-Body+in_ok-push-in-Body w ↦
+            rw (more, w.bodies-is, w.in_ok-push-in-Body.ensures.ok, map_push (option_map view_body) c.loop-at.bodies (Some w.in-Body.body), w.lines-is)
+            (judged_body world class front method bodies lines before.judged (view_body w.in-Body.body) (rw w.in-Body.is at told))
+        | in-Bare+in_ok-push-in-Bare w ↦
+            rw (more, w.bodies-is, w.in_ok-push-in-Bare.ensures.ok, map_push (option_map view_body) c.loop-at.bodies None, w.lines-is)
+            (judged_bare world class front method bodies lines before.judged (rw w.in-Bare.is at told))
+        | in-Line+in_ok-push-in-Line+in_ok-push-in-Line-2 w ↦
+            rw (more, w.bodies-is, w.in_ok-push-in-Line-2.ensures.ok, map_push (option_map view_body) c.loop-at.bodies None, w.lines-is, w.in_ok-push-in-Line.ensures.items, lines_bytes-push)
+            (judged_line world class front method bodies lines before.judged (ending_bytes w.in-Line.ending) (rw w.in-Line.is at told))
       ];
     }

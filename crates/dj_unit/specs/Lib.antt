@@ -1,3 +1,0 @@
--- What the public contracts rest on, in reading order.
-pub mod ClassText
-pub mod ClassPart
