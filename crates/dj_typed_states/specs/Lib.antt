@@ -1,0 +1,3 @@
+-- What the public contracts rest on, in reading order.
+pub mod Shapes
+pub mod Held
