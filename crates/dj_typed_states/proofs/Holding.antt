@@ -1,14 +1,14 @@
 -- What a tag says of a value is also said by a tag that it goes to, and by the tag of a type of which the value is.
-use Rattle.std.proofs.Common.{◌≡◌, ℕ, ℤ, zero, suc, Bool, true, false, List, [], ◌∷◌, Option, Some, None, IsSomeAnd, ◌⊎◌, inl, inr, refl, sym, subst}
+use Rattle.std.proofs.Common.{◌≡◌, ℕ, ℤ, zero, suc, Bool, true, List, [], ◌∷◌, Option, Some, None, IsSomeAnd, ◌⊎◌, inl, inr, sym, subst}
 use Rattle.std.proofs.lemmas.Bool.{false≢true}
-use Rattle.std.specs.Prelude.{slice_get, slice_index_or}
+use Rattle.std.specs.Prelude.{slice_get}
 use Rattle.dj_names.specs.declared.header.Header.{Header}
 use Rattle.dj_names.specs.Types as types
 use Rattle.dj_names.specs.Types.{JType, Boolean, Byte, Char, Short, Float, Double, Class, Array}
 use Rattle.dj_names.specs.Headers.{Name}
-use Rattle.dj_names.specs.Assignable.{IsReference, IsSubtype, object_name}
+use Rattle.dj_names.specs.Assignable.{IsReference, object_name}
 use Rattle.dj_values.specs.Values.{RefValue, Value, Int, Long, Null, Ref}
-use Rattle.dj_values.specs.Fits.{int_range, element_of, IsReferenceOf, IsValueOf}
+use Rattle.dj_values.specs.Fits.{int_range, IsReferenceOf, IsValueOf}
 use Rattle.dj_frames.specs.Frames as tag
 use Rattle.dj_frames.specs.Frames.{Tag, tag_of}
 use Rattle.dj_code.specs.MethodCode.{Code}
@@ -19,8 +19,8 @@ use Rattle.dj_effects.specs.Operands.{is_reference, is_array_of, is_byte_or_bool
 use Rattle.dj_effects.specs.Effects.{or_top}
 use Rattle.dj_bytecode.specs.Machine.{Locals}
 use Rattle.dj_typed_states.specs.Shapes.{HasShape}
-use Rattle.dj_typed_states.specs.Held.{IsHeld, unknown, int, long, null, unborn_this, no_object, object, unborn, IsLocal, anything, known, AllAre, none, more, AreLocals, Describes}
-use Rattle.dj_typed_states.proofs.Shapes.{shape_refl, shape_reference, shape_join, subtype_shape, length_reference}
+use Rattle.dj_typed_states.specs.Held.{IsHeld, unknown, int, long, null, unborn_this, no_object, object, unborn, IsLocal, anything, known, AllAre, none, more, Describes}
+use Rattle.dj_typed_states.proofs.Shapes.{shape_refl, shape_join, subtype_shape, length_reference}
 
 -- ---- shapes
 

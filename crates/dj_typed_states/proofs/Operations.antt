@@ -1,20 +1,20 @@
 -- What operations give on operands of the kinds that they are for.
-use Rattle.std.proofs.Common.{◌≡◌, ℕ, ℤ, pos, zero, suc, Bool, true, false, List, [], ◌∷◌, ◌++◌, map, replicate, Option, Some, None, option_map, IsSomeAnd, IsNone, refl, sym, subst}
+use Rattle.std.proofs.Common.{◌≡◌, ℕ, ℤ, pos, zero, suc, Bool, true, false, List, [], ◌∷◌, ◌++◌, map, replicate, Option, Some, None, option_map, IsSomeAnd, refl, sym, subst}
 use Rattle.std.specs.Prelude.{if◌then◌else◌, int_lt, int_le, ◌&&◌, codes, int_rem}
 use Rattle.std.specs.List.{list_any}
-use Rattle.std.specs.Int.{Width, w32, w64, int_wrapping_div}
+use Rattle.std.specs.Int.{Width, w64, int_wrapping_div}
 use Rattle.std.specs.Ordering.{int_eq}
 use Rattle.std.proofs.lemmas.Bool.{true≢false, false≢true}
 use Rattle.dj_names.specs.declared.header.Header.{Header}
 use Rattle.dj_names.specs.Types as types
 use Rattle.dj_names.specs.Types.{JType, Boolean, Byte, Char, Short, Float, Double, Class, Array, Descriptor, Field, Method, result_of, parameters_of}
 use Rattle.dj_names.specs.Headers.{Name}
-use Rattle.dj_names.specs.Assignable.{IsReference, IsSubtype, object_name}
-use Rattle.dj_values.specs.Values.{RefValue, Value, Int, Long, Null, Ref, InvokeKind, Static, Action, New, NewArray, GetField, PutField, GetStatic, PutStatic, ArrayLoad, ArrayStore, Invoke, ClassConstant, Enter, Exit, Trap, Answer, Given, Done, Thrown}
-use Rattle.dj_values.specs.Fits.{element_of, IsArray, IsReferenceOf, IsValueOf, IsObject}
-use Rattle.dj_values.specs.Answers.{IsReferenceAnd, IsNewArray, IsResult, FitsAction}
-use Rattle.dj_values.specs.Deciding.{is_subtype, is_type}
-use Rattle.dj_values.specs.Outcomes.{Throws, Stuck, Reply, Gives, Halts, then_on, ask, trap, there}
+use Rattle.dj_names.specs.Assignable.{IsReference, object_name}
+use Rattle.dj_values.specs.Values.{RefValue, Value, Int, Long, Null, Ref, InvokeKind, Static, Action, New, NewArray, GetField, PutField, GetStatic, PutStatic, ArrayLoad, ArrayStore, Invoke, ClassConstant, Enter, Exit, Given, Done, Thrown}
+use Rattle.dj_values.specs.Fits.{element_of, IsArray, IsValueOf, IsObject}
+use Rattle.dj_values.specs.Answers.{IsReferenceAnd, IsNewArray, FitsAction}
+use Rattle.dj_values.specs.Deciding.{is_subtype}
+use Rattle.dj_values.specs.Outcomes.{Throws, Reply, Gives, Halts, then_on, ask, trap, there}
 use Rattle.dj_values.proofs.Deciding.{Decides-subtype}
 use Rattle.dj_instructions.specs.declared.kinds.Kind.{Kind}
 use Rattle.dj_instructions.specs.declared.kinds.Kind.TheVariants as kind
@@ -25,14 +25,14 @@ use Rattle.dj_frames.specs.Frames as tag
 use Rattle.dj_frames.specs.Frames.{Tag, tag_of}
 use Rattle.dj_effects.specs.Works.{Want, Of}
 use Rattle.dj_effects.specs.Operands.{HasKind}
-use Rattle.dj_bytecode.specs.Operands.{with_int, with_ints, with_reference, or_null_trap, with_object, of_kind, narrowed, fitted, all_fitted}
-use Rattle.dj_bytecode.specs.Calculations.{divided, calculated, long_calculated, on_int, on_long, on_ints, on_longs, on_long_and_int, compared}
+use Rattle.dj_bytecode.specs.Operands.{with_int, with_ints, with_reference, with_object, of_kind, fitted, all_fitted}
+use Rattle.dj_bytecode.specs.Calculations.{divided, calculated, long_calculated, on_int, on_long, on_ints, on_longs, on_long_and_int}
 use Rattle.dj_bytecode.specs.Objects.{static_read, static_written, field_read, field_written, with_element, stored, element_read, element_written, length_read, with_sizes, array_made, called, static_called, object_called, cast_to, is_of, truth, thrown_out, entered, left}
 use Rattle.dj_typed_states.specs.Shapes.{HasShape}
-use Rattle.dj_typed_states.specs.Held.{IsHeld, unknown, int, long, null, unborn_this, no_object, object, unborn, AllAre, none, more}
+use Rattle.dj_typed_states.specs.Held.{IsHeld, int, long, no_object, object, unborn, AllAre, none, more}
 use Rattle.dj_typed_states.proofs.Shapes.{shape_refl, subtype_shape}
 use Rattle.dj_typed_states.proofs.Replies.{Replies, thrown_reference, replies-then, replies-if, replies-ask, replies-trap}
-use Rattle.dj_typed_states.proofs.Holding.{IsAnyReference, reference_held, any_class, value_held, reference_shaped, element_held, IsMeant}
+use Rattle.dj_typed_states.proofs.Holding.{IsAnyReference, reference_held, value_held, element_held, IsMeant}
 use Rattle.dj_typed_states.proofs.Taking.{IsGiven, onto}
 
 -- whatever it is

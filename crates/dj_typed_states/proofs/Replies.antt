@@ -1,13 +1,13 @@
 -- What operations reply: none is stuck, what is given is such, and what is thrown is a reference.
-use Rattle.std.proofs.Common.{◌≡◌, ℕ, Bool, true, false, List, [], ◌∷◌, Option, Some, None, refl, sym, ap, subst}
+use Rattle.std.proofs.Common.{◌≡◌, ℕ, Bool, true, false, List, [], ◌∷◌, Option, Some, None, refl, sym, subst}
 use Rattle.std.specs.Prelude.{if◌then◌else◌}
 use Rattle.dj_names.specs.declared.header.Header.{Header}
 use Rattle.dj_names.specs.Assignable.{IsReference}
-use Rattle.dj_values.specs.Values.{RefValue, Value, Action, Trap, Answer, Given, Done, Thrown}
+use Rattle.dj_values.specs.Values.{RefValue, Value, Action, Answer, Given, Done, Thrown}
 use Rattle.dj_values.specs.Fits.{IsThrowable}
 use Rattle.dj_values.specs.Answers.{FitsAction}
 use Rattle.dj_values.specs.Deciding.{is_answer}
-use Rattle.dj_values.specs.Outcomes.{Stop, Throws, More, Stuck, Reply, Gives, Halts, Asks, told, ask, then_on, trap, State, Outcome, Is, Stops, bind, acted, answered, outside}
+use Rattle.dj_values.specs.Outcomes.{Stop, Throws, More, Stuck, Reply, Gives, Halts, Asks, ask, then_on, trap, State, Outcome, Is, Stops, bind, acted, answered, outside}
 use Rattle.dj_values.proofs.Deciding.{Decides-answer}
 
 -- ---- replies

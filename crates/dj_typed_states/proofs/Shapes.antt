@@ -1,5 +1,5 @@
 -- Shapes are kept wherever a reference goes, and by what arrays hold.
-use Rattle.std.proofs.Common.{◌≡◌, ℕ, List, [], ◌∷◌, Option, Some, None, IsSomeAnd, Contains, refl, sym, subst, arith}
+use Rattle.std.proofs.Common.{◌≡◌, ℕ, List, IsSomeAnd, Contains, refl, sym, subst, arith}
 use Rattle.dj_names.specs.declared.header.Header.{Header}
 use Rattle.dj_names.specs.Types.{JType, Boolean, Byte, Char, Short, Int, Long, Float, Double, Class, Array}
 use Rattle.dj_names.specs.Assignable.{wider_types, IsReference, IsSubtype, own_type, wider_number, parent, object, elements, array}

@@ -1,10 +1,10 @@
 -- Locals that are written, by slot, and values whose tags change as objects are born.
-use Rattle.std.proofs.Common.{◌≡◌, ℕ, zero, suc, ◌+◌, ◌<◌, ◌≤◌, ◌==◌, Bool, true, false, List, [], ◌∷◌, ◌++◌, length, map, replicate, Option, Some, None, IsSomeAnd, refl, sym, ap, ◌∙◌, subst, arith}
+use Rattle.std.proofs.Common.{◌≡◌, ℕ, zero, suc, ◌+◌, ◌<◌, ◌==◌, Bool, true, false, List, [], ◌∷◌, ◌++◌, length, map, replicate, Option, Some, None, IsSomeAnd, refl, sym, ap, subst, arith}
 use Rattle.std.specs.Prelude.{if◌then◌else◌, slice_get, slice_set, slice_index_or}
 use Rattle.std.proofs.lemmas.Bool.{false≢true}
-use Rattle.dj_names.specs.Types.{JType, Class}
+use Rattle.dj_names.specs.Types.{Class}
 use Rattle.dj_names.specs.Headers.{Name}
-use Rattle.dj_values.specs.Values.{Value, Int, Ref}
+use Rattle.dj_values.specs.Values.{Value, Ref}
 use Rattle.dj_instructions.specs.declared.kinds.Kind.{Kind}
 use Rattle.dj_instructions.specs.declared.kinds.Kind.TheVariants as kind
 use Rattle.dj_frames.specs.Frames as tag

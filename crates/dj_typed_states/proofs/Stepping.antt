@@ -1,12 +1,11 @@
 -- Where an instruction leads by its family, from a state that the frame before it describes.
-use Rattle.std.proofs.Common.{◌≡◌, ℕ, ℤ, zero, suc, ◌+◌, ◌<◌, ◌≤◌, Bool, true, false, List, [], ◌∷◌, ◌++◌, length, map, drop, Option, Some, None, IsSome, IsSomeAnd, refl, sym, ap, ◌∙◌, subst, arith}
-use Rattle.std.specs.Prelude.{if◌then◌else◌, slice_get, slice_set, slice_index_or}
+use Rattle.std.proofs.Common.{◌≡◌, ℕ, ℤ, ◌+◌, ◌<◌, ◌≤◌, Bool, true, List, [], ◌∷◌, length, map, drop, Option, Some, None, IsSomeAnd, refl, sym, ap, subst, arith}
+use Rattle.std.specs.Prelude.{slice_get, slice_set, slice_index_or}
 use Rattle.std.specs.Int.{w32, int_wrapping_add}
 use Rattle.dj_names.specs.declared.header.Header.{Header}
 use Rattle.dj_names.specs.Types.{JType, result_of}
-use Rattle.dj_names.specs.Assignable.{IsReference}
-use Rattle.dj_values.specs.Values.{RefValue, Value, Int}
-use Rattle.dj_values.specs.Outcomes.{Reply, Gives, there, then_on, World, State, Outcome, Is, Stops, bind, outside}
+use Rattle.dj_values.specs.Values.{Value, Int}
+use Rattle.dj_values.specs.Outcomes.{Reply, Gives, there, then_on, State, Outcome, Is, bind, outside}
 use Rattle.dj_instructions.specs.declared.kinds.Kind.{Kind}
 use Rattle.dj_instructions.specs.declared.kinds.Kind.TheVariants as kind
 use Rattle.dj_instructions.specs.Instructions.{Instructions}
@@ -15,7 +14,7 @@ use Rattle.dj_frames.specs.Frames.{Tag}
 use Rattle.dj_code.specs.MethodCode.{Code}
 use Rattle.dj_tags.specs.Goes.{Assignability, Working}
 use Rattle.dj_effects.specs.Works.{Want, Form, Work, Plain, Moves, Loads, Stores, Counts}
-use Rattle.dj_effects.specs.Operands.{HasKind, HasOperands, under, form_of, moved_words}
+use Rattle.dj_effects.specs.Operands.{HasKind, HasOperands, under}
 use Rattle.dj_effects.specs.Effects as effects
 use Rattle.dj_effects.specs.Effects.{or_top, effect, kind_words, locals_needed}
 use Rattle.dj_bytecode.specs.Operands.{with_int, of_kind}
