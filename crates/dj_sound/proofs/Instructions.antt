@@ -1,22 +1,21 @@
 -- Each instruction leads on from a state that the frame before it describes.
-use Rattle.std.proofs.Common.{◌≡◌, ℕ, ℤ, pos, zero, suc, ◌+◌, Bool, true, false, not, List, [], ◌∷◌, ◌++◌, length, map, replicate, drop, All, codes, Option, Some, None, option_map, IsSome, inl, inr, refl, sym, ap, ◌∙◌, subst, arith}
+use Rattle.std.proofs.Common.{◌≡◌, ℕ, ℤ, pos, zero, suc, ◌+◌, Bool, true, false, not, List, [], ◌∷◌, ◌++◌, length, map, replicate, drop, All, codes, Option, Some, None, option_map, IsSome, inl, inr, refl, sym, subst, arith}
 use Rattle.std.specs.Prelude.{if◌then◌else◌, slice_get, int_le, unsigned_abs, ◌-ℤ◌}
 use Rattle.std.specs.Option.{option_and_then}
 use Rattle.std.specs.Int.{w32, w64, int_wrap, int_wrapping_neg}
 use Rattle.std.specs.Ordering.{int_eq}
-use Rattle.std.proofs.lemmas.Bool.{true≢false, false≢true}
+use Rattle.std.proofs.lemmas.Bool.{false≢true}
 use Rattle.std.proofs.lemmas.List.{length-replicate}
 use Rattle.std.proofs.lemmas.List.Elements.{All-head, All-tail, All-cons}
 use Rattle.dj_names.specs.declared.header.Header.{Header}
 use Rattle.dj_names.specs.Types as types
 use Rattle.dj_names.specs.Types.{JType, Boolean, Byte, Char, Short, Float, Double, Class, Array, Descriptor, parameters_of, result_of}
-use Rattle.dj_names.specs.Headers.{Name}
 use Rattle.dj_names.specs.MethodNames.{is_constructor}
 use Rattle.dj_names.specs.Assignable.{object_name}
 use Rattle.dj_names.specs.declared.members.Constant.{Constant}
 use Rattle.dj_names.specs.declared.members.Constant.TheVariants as constant
 use Rattle.dj_values.specs.Values.{RefValue, Value, Int, Long, Null, Ref, InvokeKind, Virtual, Interface, Special, ClassConstant, New as NewAction}
-use Rattle.dj_values.specs.Outcomes.{Reply, Gives, then_on, ask, State, Outcome}
+use Rattle.dj_values.specs.Outcomes.{Reply, Gives, ask}
 use Rattle.dj_instructions.specs.declared.kinds.Kind.{Kind}
 use Rattle.dj_instructions.specs.declared.kinds.Kind.TheVariants as kind
 use Rattle.dj_instructions.specs.declared.kinds.Calc.{Calc}
@@ -27,9 +26,8 @@ use Rattle.dj_instructions.specs.Instructions.{Instruction, Instructions, FieldR
 use Rattle.dj_instructions.specs.Instructions as op
 use Rattle.dj_frames.specs.Frames as tag
 use Rattle.dj_frames.specs.Frames.{Tag, tag_of, is_unborn_this, is_unborn_at}
-use Rattle.dj_code.specs.MethodCode.{Code}
 use Rattle.dj_code.specs.Targets.{targets_of}
-use Rattle.dj_tags.specs.Goes.{Assignability, Working, reversed}
+use Rattle.dj_tags.specs.Goes.{Assignability, Working}
 use Rattle.dj_effects.specs.Works.{Want, Of, Reference, AnyArray, ByteArray, Work, Plain, Bears, Elements, Sets, Supers, Leaves, Never}
 use Rattle.dj_effects.specs.Works as works
 use Rattle.dj_effects.specs.Spelled.{is_spelled, is_kind}
@@ -40,11 +38,10 @@ use Rattle.dj_effects.specs.Effects.{or_top, effect, borne, instead}
 use Rattle.dj_bytecode.specs.Operands.{with_one, with_two, with_int, with_reference, of_kind, narrowed, fitted}
 use Rattle.dj_bytecode.specs.Calculations.{calculated, long_calculated, on_int, on_long, on_ints, on_longs, on_long_and_int, compared, holds, led, in_table, in_cases, target_at}
 use Rattle.dj_bytecode.specs.Objects.{static_read, static_written, field_read, field_written, element_read, element_written, length_read, array_made, special_owner, static_called, object_called, cast_to, is_of, truth, is_same_reference, text_reference, thrown_out, entered, left}
-use Rattle.dj_bytecode.specs.Meanings.{Family, Strict, Leads, meaning_of, constant_pushed, no_operand, returned_nothing, returned_value, return_of, calculation, conversion, comparison, arguments_of}
-use Rattle.dj_bytecode.specs.Machine.{Locals, local_slots, Place, step}
+use Rattle.dj_bytecode.specs.Meanings.{Strict, Leads, meaning_of, constant_pushed, returned_nothing, returned_value, return_of, calculation, conversion, comparison, arguments_of}
 use Rattle.dj_verify.specs.Rules.{falls}
 use Rattle.dj_typed_states.specs.Shapes.{HasShape}
-use Rattle.dj_typed_states.specs.Held.{IsHeld, unknown, int, long, null, unborn_this, no_object, object, unborn, AllAre, none, more, AreLocals, Describes}
+use Rattle.dj_typed_states.specs.Held.{IsHeld, int, long, null, unborn_this, object, AllAre, none, more, AreLocals}
 use Rattle.dj_typed_states.proofs.Replies.{Replies, replies-then, replies-trap}
 use Rattle.dj_typed_states.proofs.Holding.{IsAnyReference, any_class, reference_held, IsMeant, wanted_meant}
 use Rattle.dj_typed_states.proofs.Taking.{Meets, met, top, meets, meets_more, onto, onto_call, onto_arguments, arguments_many, IsGiven}

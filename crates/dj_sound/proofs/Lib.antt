@@ -1,3 +1,4 @@
 pub mod Instructions
 pub mod Starts
 pub mod Runs
+mod Examples

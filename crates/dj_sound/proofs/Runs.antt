@@ -1,5 +1,5 @@
 -- From a state that the frame before an instruction describes, no run of typed code is stuck.
-use Rattle.std.proofs.Common.{◌≡◌, ◌≢◌, ℕ, zero, suc, ◌<◌, ◌≤◌, ◌==◌, ◌&&◌, nat_le, nat_lt, Bool, true, false, List, [], ◌∷◌, length, map, All, Option, Some, None, IsSome, IsSomeAnd, IfSome, refl, sym, ap, ◌∙◌, subst, arith}
+use Rattle.std.proofs.Common.{◌≡◌, ◌≢◌, ℕ, zero, suc, ◌<◌, ◌≤◌, ◌==◌, ◌&&◌, nat_le, Bool, true, false, List, [], ◌∷◌, length, map, All, Option, Some, None, IsSome, IsSomeAnd, IfSome, refl, sym, subst, arith}
 use Rattle.std.specs.Prelude.{if◌then◌else◌}
 use Rattle.std.proofs.lemmas.Bool.{false≢true}
 use Rattle.std.proofs.lemmas.Bool.Decides.{Decides-eqb, nat_tests}
@@ -8,29 +8,32 @@ use Rattle.dj_names.specs.declared.header.Header.{Header}
 use Rattle.dj_names.specs.Types.{JType}
 use Rattle.dj_names.specs.Headers.{Name}
 use Rattle.dj_names.specs.Assignable.{IsReference}
-use Rattle.dj_values.specs.Values.{RefValue, Value, Ref, Answer}
-use Rattle.dj_values.specs.Outcomes.{Throws, More, Stuck, State, Outcome, Is, Stops, bind, opening}
-use Rattle.dj_instructions.specs.Instructions.{Instruction, Instructions, instruction_at}
+use Rattle.dj_values.specs.Values.{RefValue, Value, Ref}
+use Rattle.dj_values.specs.Outcomes.{Throws, More, Stuck, State, Outcome, Is, Stops, opening}
+use Rattle.dj_class.specs.Described.{MethodOf, ClassOf}
+use Rattle.dj_instructions.proofs.ListingReading.{no_listing}
+use Rattle.dj_instructions.specs.Instructions.{Instructions, instruction_at}
 use Rattle.dj_code.specs.declared.method_code.Handler.{Handler}
 use Rattle.dj_code.specs.MethodCode.{Code, Typed}
+use Rattle.dj_code.specs.ReadCode.{SpellsCode}
 use Rattle.dj_code.specs.Targets.{IsStart, targets_of}
 use Rattle.dj_tags.specs.Goes.{Assignability, Working, FrameGoes, top_down}
 use Rattle.dj_tags.specs.Laxly.{Laxly}
 use Rattle.dj_effects.specs.Rows.{work}
 use Rattle.dj_effects.specs.Operands.{HasOperands}
-use Rattle.dj_effects.specs.Effects.{effect, locals_needed}
+use Rattle.dj_effects.specs.Effects.{locals_needed}
 use Rattle.dj_bytecode.specs.Meanings.{meaning_of}
 use Rattle.dj_bytecode.specs.Machine.{Locals, local_slots, Place, Before, Returned, code_from, step, step_first, takes, handler_for, caught, pc_of, onward, steps, first_locals}
 use Rattle.dj_verify.specs.declared.rule.Rule.TheVariants as rule
 use Rattle.dj_verify.specs.Rules as rules_of
 use Rattle.dj_verify.specs.Rules.{entry, given, falls, Reaches, caught_class, thrown_frame, HandlerTakes, Covers, effect_at, FrameKeeps}
-use Rattle.dj_verify.specs.Table.{or_else, frame_at, flow_behind, Keeps, KeepsAll, rules, AreFrames, IsFrameTable}
+use Rattle.dj_verify.specs.Table.{or_else, frame_at, flow_behind, Keeps, KeepsAll, rules, AreFrames}
 use Rattle.dj_verify.specs.Verified.{IsTyped}
 use Rattle.dj_typed_states.specs.Shapes.{HasShape}
-use Rattle.dj_typed_states.specs.Held.{IsHeld, object, AllAre, none, more, AreLocals, Describes}
+use Rattle.dj_typed_states.specs.Held.{object, none, more, Describes}
 use Rattle.dj_typed_states.proofs.Replies.{Ends, ends-bind, ThrowsFrom}
 use Rattle.dj_typed_states.proofs.Holding.{lax_shape, frame_goes}
-use Rattle.dj_typed_states.proofs.Stepping.{Site, Ready, LeadsOn, behind, jump, out, Does}
+use Rattle.dj_typed_states.proofs.Stepping.{Site, LeadsOn, behind, jump, out}
 use Rattle.dj_sound.specs.Runs.{IsStuck, run, NeverGoesWrong}
 use Rattle.dj_sound.proofs.Instructions.{work_steps}
 use Rattle.dj_sound.proofs.Starts.{entry_describes}
@@ -227,3 +230,17 @@ never_wrong world typed some table headers arguments fit answers bound =
     stands_behind (Laxly world) (lax_shape world) world headers code (Some (entry code)) (entry code) code.instructions frames [] (first_locals code.max_locals arguments) refl table.are table.number some (entry_describes headers code arguments fit) in
     unstuck (run headers code arguments answers bound)
     (runs_good (Laxly world) (lax_shape world) world headers code frames table.are table.number bound code.instructions [] (record { store = first_locals code.max_locals arguments; world = opening answers }) stands)
+
+-- code that is read has an instruction, since it has a byte
+code_some : (class : ClassOf) (method : MethodOf) (code : Code) → SpellsCode class method code → code.instructions ≢ []
+code_some class method code spells empty =
+    let no_bytes : length spells.content.code ≡ 0 = no_listing class.pool spells.content.code code.instructions spells.listed empty in
+    let least : nat_le 1 (length spells.content.code) && nat_le (length spells.content.code) 65535 ≡ true = spells.has.laid_out.fits.1.1.0.0.1 in
+    some_byte (length spells.content.code) least no_bytes
+  where
+    some_byte : (bytes : ℕ) → nat_le 1 bytes && nat_le bytes 65535 ≡ true → bytes ≡ 0 → ⊥
+    some_byte zero least is = false≢true least
+    some_byte (suc bytes) least is = absurd (omega arith)
+
+pub read_never_wrong : (world : List Header) (class : ClassOf) (method : MethodOf) (typed : Typed) → SpellsCode class method typed.code → IsTyped (Laxly world) world typed → NeverGoesWrong typed.code
+read_never_wrong world class method typed spells = never_wrong world typed (code_some class method typed.code spells)

@@ -1,13 +1,12 @@
 -- A method begins in a state that its first frame describes.
-use Rattle.std.proofs.Common.{◌≡◌, ℕ, zero, suc, ◌+◌, ◌-◌, ◌≤◌, ◌==◌, Bool, true, false, not, List, [], ◌∷◌, ◌++◌, length, map, replicate, Option, Some, None, refl, sym, ap, ◌∙◌, subst, arith}
+use Rattle.std.proofs.Common.{◌≡◌, ◌-◌, ◌==◌, Bool, true, false, not, List, [], ◌∷◌, ◌++◌, length, map, replicate, Option, None, refl, arith}
 use Rattle.std.specs.Prelude.{flat_map, bit_and, if◌then◌else◌}
 use Rattle.std.proofs.lemmas.List.{length-append, length-replicate}
 use Rattle.dj_names.specs.declared.header.Header.{Header}
-use Rattle.dj_names.specs.Types as types
 use Rattle.dj_names.specs.Types.{JType, Boolean, Class, parameters_of}
 use Rattle.dj_names.specs.Headers.{Name}
-use Rattle.dj_values.specs.Values.{RefValue, Value, Int, Long, Null, Ref}
-use Rattle.dj_values.specs.Fits.{AreValuesOf, IsThis, AreArguments, is_static}
+use Rattle.dj_values.specs.Values.{Value, Int, Long, Null, Ref}
+use Rattle.dj_values.specs.Fits.{AreValuesOf, IsThis, AreArguments}
 use Rattle.dj_frames.specs.Frames as tag
 use Rattle.dj_frames.specs.Frames.{Tag, slots_of, tag_of, has_unborn_this, this_of, receiver_of, entry_values}
 use Rattle.dj_code.specs.MethodCode.{Code}
