@@ -1,5 +1,5 @@
 -- Locals that are written, by slot, and values whose tags change as objects are born.
-use Rattle.std.proofs.Common.{◌≡◌, ℕ, zero, suc, ◌+◌, ◌<◌, ◌==◌, Bool, true, false, List, [], ◌∷◌, ◌++◌, length, map, replicate, Option, Some, None, IsSomeAnd, refl, sym, ap, subst, arith}
+use Rattle.std.proofs.Common.{◌≡◌, ℕ, zero, suc, ◌+◌, ◌<◌, ◌==◌, Bool, true, false, List, [], ◌∷◌, ◌++◌, length, map, replicate, Option, Some, None, IsSomeAnd, refl, sym, subst, arith}
 use Rattle.std.specs.Prelude.{if◌then◌else◌, slice_get, slice_set, slice_index_or}
 use Rattle.std.proofs.lemmas.Bool.{false≢true}
 use Rattle.dj_names.specs.Types.{Class}
@@ -62,11 +62,6 @@ counted_at (first ∷ rest) (local ∷ locals) (suc at) (suc slot) within here h
 
 pub counted_locals : (at : ℕ) (tags : List Tag) (locals : Locals) {held : Tag} {value : Value} → at < length locals → slice_get tags at ≡ Some held → IsHeld held value → AreLocals tags locals → AreLocals tags (slice_set locals at (Some value))
 counted_locals at tags locals within here held are slot = counted_at tags locals at slot within here held (are slot)
-
-pub written_length : (locals : Locals) (at : ℕ) (value : Value) → length (slice_set locals at (Some value)) ≡ length locals
-written_length [] at value = refl
-written_length (local ∷ locals) zero value = refl
-written_length (local ∷ locals) (suc at) value = ap suc (written_length locals at value)
 
 -- a local of a kind is there
 pub local_there : (wanted : Kind) (found : Option Tag) (local : Option Value) → IsSomeAnd found (HasKind wanted) → IsLocal (or_top found) local → (held : Tag) × (value : Value) × (found ≡ Some held) × (local ≡ Some value) × HasKind wanted held × IsHeld held value

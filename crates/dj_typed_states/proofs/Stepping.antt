@@ -1,5 +1,6 @@
 -- Where an instruction leads by its family, from a state that the frame before it describes.
 use Rattle.std.proofs.Common.{◌≡◌, ℕ, ℤ, ◌+◌, ◌<◌, ◌≤◌, Bool, true, List, [], ◌∷◌, length, map, drop, Option, Some, None, IsSomeAnd, refl, sym, ap, subst, arith}
+use Rattle.std.proofs.lemmas.List.{length-set}
 use Rattle.std.specs.Prelude.{slice_get, slice_set, slice_index_or}
 use Rattle.std.specs.Int.{w32, int_wrapping_add}
 use Rattle.dj_names.specs.declared.header.Header.{Header}
@@ -27,7 +28,7 @@ use Rattle.dj_typed_states.proofs.Replies.{Replies, replies-then, Ends, ends-bin
 use Rattle.dj_typed_states.proofs.Holding.{IsMeant}
 use Rattle.dj_typed_states.proofs.Taking.{Meets, meets, onto, IsGiven, taken_replies, strict_replies, jumped_replies}
 use Rattle.dj_typed_states.proofs.Moving.{as_moved, are_lawful, moves_replies}
-use Rattle.dj_typed_states.proofs.Slots.{stored_locals, counted_locals, written_length, local_there}
+use Rattle.dj_typed_states.proofs.Slots.{stored_locals, counted_locals, local_there}
 use Rattle.dj_typed_states.proofs.Operations.{Any, int_replies, kind_replies}
 
 -- an instruction that is about to run: by which references the code is typed, over which headers, and which run; the code, the offset of the instruction, those behind it, whether it may lead there, and what is known of its targets; and the frame before it, with the state
@@ -181,7 +182,7 @@ module _ {site : Site} where
           (λ given is. record {
             on_stack = subst (AllAre IsHeld tags) (sym is.1) are;
             in_locals = stored_locals slot site.frame.locals site.state.store within is.0 r.describes.in_locals;
-            room = subst (λ n. site.code.max_locals ≤ n) (sym (written_length site.state.store slot given.0)) r.describes.room;
+            room = subst (λ n. site.code.max_locals ≤ n) (sym (length-set site.state.store slot (Some given.0))) r.describes.room;
           })
 
   -- an int in a local that is added to
@@ -197,7 +198,7 @@ module _ {site : Site} where
       (λ given is. record {
         on_stack = subst (AllAre IsHeld site.frame.stack) (sym is.1) r.describes.on_stack;
         in_locals = counted_locals slot site.frame.locals site.state.store within r.operands.1 is.0 r.describes.in_locals;
-        room = subst (λ n. site.code.max_locals ≤ n) (sym (written_length site.state.store slot given.0)) r.describes.room;
+        room = subst (λ n. site.code.max_locals ≤ n) (sym (length-set site.state.store slot (Some given.0))) r.describes.room;
       })
     where
       there_int : {A : Type 0} (P : A → Type 0) (next : Value → Reply A) {local : Option Value} → IsLocal tag.Int local → ((value : Value) → IsHeld tag.Int value → Replies site.headers P (next value)) → Replies site.headers P (then_on (there local) next)

@@ -7,6 +7,7 @@ use Rattle.dj_values.specs.Outcomes.{Reply, Gives, then_on}
 use Rattle.dj_names.specs.Types.{JType}
 use Rattle.dj_frames.specs.Frames.{Tag}
 use Rattle.dj_tags.specs.Goes.{Assignability, reversed}
+use Rattle.dj_tags.proofs.SlotLemmas.{length_reversed}
 use Rattle.dj_effects.specs.Works.{Want}
 use Rattle.dj_effects.specs.Operands.{AreWanted, enough, there, under}
 use Rattle.dj_effects.specs.Effects as effects
@@ -88,12 +89,6 @@ onto_call list receiver = onto_append (reversed list) (receiver ∷ []) [] ∙ a
 
 pub onto_arguments : {A : Type 0} (list : List A) → onto (reversed list ++ []) [] ≡ list ++ []
 onto_arguments list = onto_append (reversed list) [] [] ∙ onto_reversed list []
-
-length_reversed : {A : Type 0} (list : List A) → length (reversed list) ≡ length list
-length_reversed [] = refl
-length_reversed (first ∷ list) =
-    let many = length-append (reversed list) (first ∷ []) in
-    let rest = length_reversed list in omega arith
 
 pub arguments_many : {A B : Type 0} (f : A → B) (list : List A) (below : List B) → length list + length below ≡ length (reversed (map f list) ++ below)
 arguments_many f list below =
