@@ -1,6 +1,6 @@
 -- From a state that the frame before an instruction describes, no run of typed code is stuck.
-use Rattle.std.proofs.Common.{◌≡◌, ◌≢◌, ℕ, zero, suc, ◌<◌, ◌≤◌, ◌==◌, ◌&&◌, nat_le, Bool, true, false, List, [], ◌∷◌, length, map, All, Option, Some, None, IsSome, IsSomeAnd, IfSome, refl, sym, subst, arith}
-use Rattle.std.specs.Prelude.{if◌then◌else◌}
+use Rattle.std.proofs.Common.{◌≡◌, ◌≢◌, ℕ, zero, suc, ◌<◌, ◌≤◌, ◌==◌, ◌&&◌, nat_le, Bool, true, false, List, [], ◌∷◌, length, drop, All, Option, Some, None, IsSome, IsSomeAnd, IfSome, refl, sym, ap, ◌∙◌, subst, arith}
+use Rattle.std.specs.Prelude.{if◌then◌else◌, slice_get}
 use Rattle.std.proofs.lemmas.Bool.{false≢true}
 use Rattle.std.proofs.lemmas.Bool.Decides.{Decides-eqb, nat_tests}
 use Rattle.std.proofs.lemmas.List.Elements.{All-head, All-tail}
@@ -12,18 +12,19 @@ use Rattle.dj_values.specs.Values.{RefValue, Value, Ref}
 use Rattle.dj_values.specs.Outcomes.{Throws, More, Stuck, State, Outcome, Is, Stops, opening}
 use Rattle.dj_class.specs.Described.{MethodOf, ClassOf}
 use Rattle.dj_instructions.proofs.ListingReading.{no_listing}
-use Rattle.dj_instructions.specs.Instructions.{Instructions, instruction_at}
+use Rattle.dj_instructions.specs.Instructions.{Instruction, Instructions, instruction_at}
 use Rattle.dj_code.specs.declared.method_code.Handler.{Handler}
 use Rattle.dj_code.specs.MethodCode.{Code, Typed}
 use Rattle.dj_code.specs.ReadCode.{SpellsCode}
 use Rattle.dj_code.specs.Targets.{IsStart, targets_of}
-use Rattle.dj_tags.specs.Goes.{Assignability, Working, FrameGoes, top_down}
+use Rattle.dj_tags.specs.Goes.{Assignability, Working, FrameGoes}
 use Rattle.dj_tags.specs.Laxly.{Laxly}
 use Rattle.dj_effects.specs.Rows.{work}
 use Rattle.dj_effects.specs.Operands.{HasOperands}
 use Rattle.dj_effects.specs.Effects.{locals_needed}
 use Rattle.dj_bytecode.specs.Meanings.{meaning_of}
 use Rattle.dj_bytecode.specs.Machine.{Locals, local_slots, Place, Before, Returned, code_from, step, step_first, takes, handler_for, caught, pc_of, onward, steps, first_locals}
+use Rattle.dj_bytecode.specs.SameShows.{AreArgumentsOf}
 use Rattle.dj_verify.specs.declared.rule.Rule.TheVariants as rule
 use Rattle.dj_verify.specs.Rules as rules_of
 use Rattle.dj_verify.specs.Rules.{entry, given, falls, Reaches, caught_class, thrown_frame, HandlerTakes, Covers, effect_at, FrameKeeps}
@@ -34,6 +35,7 @@ use Rattle.dj_typed_states.specs.Held.{object, none, more, Describes}
 use Rattle.dj_typed_states.proofs.Replies.{Ends, ends-bind, ThrowsFrom}
 use Rattle.dj_typed_states.proofs.Holding.{lax_shape, frame_goes}
 use Rattle.dj_typed_states.proofs.Stepping.{Site, LeadsOn, behind, jump, out}
+use Rattle.dj_sound.specs.States.{table_of, Stands, StandsAt, StepsWell}
 use Rattle.dj_sound.specs.Runs.{IsStuck, run, NeverGoesWrong}
 use Rattle.dj_sound.proofs.Instructions.{work_steps}
 use Rattle.dj_sound.proofs.Starts.{entry_describes}
@@ -63,25 +65,33 @@ kept Goes world code place frame is (no_frame, (into, (operands, (room, (targets
       past = at (λ f. FrameKeeps Goes world code place f rule.Past) is past;
     }
 
--- ---- where a run stands
+-- ---- places of the table
 
--- before these instructions, of which each has a frame, the first of them describes the state
-record Stands (Goes : Assignability) (world : List Header) (code : Code) (rest : Instructions) (stack : List Value) (locals : Locals) : Type 0 where
+-- a frame of the table with what is known of it: its instruction and those behind it, each with its frame
+record FrameAt (Goes : Assignability) (world : List Header) (code : Code) (place : ℕ) (part : Instructions) (frames : List Working) (frame : Working) : Type 0 where
   flow : Option Working
-  frame : Working
   others : List Working
-  are : AreFrames Goes world code flow rest (frame ∷ others)
-  many : suc (length others) ≡ length rest
-  describes : Describes code frame stack locals
+  are : AreFrames Goes world code flow (drop place part) (frame ∷ others)
+  many : suc (length others) ≡ length (drop place part)
+  next : (other : Working) (rest : List Working) → others ≡ other ∷ rest → slice_get frames (suc place) ≡ Some other
 
--- the instruction at an offset, with its frame
-record Found (Goes : Assignability) (world : List Header) (code : Code) (pc : ℕ) (part : Instructions) : Type 0 where
-  flow : Option Working
+-- the first instruction at an offset, with its frame
+record Found (code : Code) (pc : ℕ) (part : Instructions) (frames : List Working) : Type 0 where
+  place : ℕ
+  here : drop place part ≡ code_from pc part
   frame : Working
-  others : List Working
-  are : AreFrames Goes world code flow part (frame ∷ others)
-  many : suc (length others) ≡ length part
+  there : slice_get frames place ≡ Some frame
+  flow : Option Working
   at : or_else (given code pc) flow ≡ Some frame
+
+first_there : (frames : List Working) (other : Working) (rest : List Working) → frames ≡ other ∷ rest → slice_get frames 0 ≡ Some other
+first_there frames other rest is = ap (λ list. slice_get list 0) is
+
+drop_next : (place : ℕ) (list : Instructions) (first : ℕ × Instruction) (rest : Instructions) → drop place list ≡ first ∷ rest → drop (suc place) list ≡ rest
+drop_next zero [] first rest is = absurd (cc)
+drop_next (suc place) [] first rest is = absurd (cc)
+drop_next zero (head ∷ tail) first rest is = cc
+drop_next (suc place) (head ∷ tail) first rest is = drop_next place tail first rest is
 
 same_some : {A : Type 0} (first second : A) → Some first ≡ Some second → first ≡ second
 same_some first second is = cc
@@ -97,47 +107,56 @@ module _ (Goes : Assignability) (keeps : (from to : JType) → Goes from to → 
   reached reaching frame None flow stack locals is goes describes = absurd goes
   reached reaching frame (Some other) flow stack locals is goes describes = subst (λ f. Describes code f stack locals) (same_some other frame is) (frame_goes Goes keeps code reaching other stack locals goes describes)
 
-  find : (pc : ℕ) (part : Instructions) (flow : Option Working) (frames : List Working) → AreFrames Goes world code flow part frames → length frames ≡ length part → IsStart part pc → Found Goes world code pc (code_from pc part)
+  frames_at : (place : ℕ) (part : Instructions) (flow : Option Working) (frames : List Working) (frame : Working) → AreFrames Goes world code flow part frames → length frames ≡ length part → slice_get frames place ≡ Some frame → FrameAt Goes world code place part frames frame
+  frames_at place part flow [] frame are many is = absurd (cc)
+  frames_at place [] flow (head ∷ frames) frame are many is = absurd are
+  frames_at zero (first ∷ rest) flow (head ∷ frames) frame are many is = record {
+    flow = flow;
+    others = frames;
+    are = subst (λ f. AreFrames Goes world code flow (first ∷ rest) (f ∷ frames)) (same_some head frame is) are;
+    many = many;
+    next = first_there frames;
+  }
+  frames_at (suc place) (first ∷ rest) flow (head ∷ frames) frame are many is =
+      let later = frames_at place rest (flow_behind code (record { flow = flow; pc = first.0; instruction = first.1; rest = rest }) head) frames frame are.2 (omega (arith, many)) is in
+      record { flow = later.flow; others = later.others; are = later.are; many = later.many; next = later.next }
+
+  find : (pc : ℕ) (part : Instructions) (flow : Option Working) (frames : List Working) → AreFrames Goes world code flow part frames → length frames ≡ length part → IsStart part pc → Found code pc part frames
   find pc [] flow frames are many start = absurd (false≢true start)
   find pc (first ∷ rest) flow [] are many start = absurd (omega (arith, many))
   find pc (first ∷ rest) flow (frame ∷ frames) are many start =
       go (first.0 == pc) refl start (find pc rest (flow_behind code (record { flow = flow; pc = first.0; instruction = first.1; rest = rest }) frame) frames are.2 (omega (arith, many)))
     where
-      go : (test : Bool) → first.0 == pc ≡ test → IsSome (if test then Some first.1 else instruction_at rest pc) → (IsStart rest pc → Found Goes world code pc (code_from pc rest)) → Found Goes world code pc (if test then first ∷ rest else code_from pc rest)
+      go : (test : Bool) → first.0 == pc ≡ test → IsSome (if test then Some first.1 else instruction_at rest pc) → (IsStart rest pc → Found code pc rest frames) → Found code pc (first ∷ rest) (frame ∷ frames)
       go true same start later = record {
-        flow = flow;
+        place = 0;
+        here = rw same refl;
         frame = frame;
-        others = frames;
-        are = are;
-        many = many;
+        there = refl;
+        flow = flow;
         at = subst (λ n. or_else (given code n) flow ≡ Some frame) ((Decides-eqb first.0 pc).0 same) are.0;
       }
-      go false same start later = later start
-
-  -- behind an instruction, with what flows out of it
-  stands_behind : (flow : Option Working) (after : Working) (rest : Instructions) (frames : List Working) (stack : List Value) (locals : Locals) → flow ≡ Some after → AreFrames Goes world code flow rest frames → length frames ≡ length rest → (rest ≡ [] → ⊥) → Describes code after stack locals → Stands Goes world code rest stack locals
-  stands_behind flow after [] frames stack locals is are many past describes = absurd (past refl)
-  stands_behind flow after (next ∷ later) [] stack locals is are many past describes = absurd (omega (arith, many))
-  stands_behind flow after (next ∷ later) (frame ∷ frames) stack locals is are many past describes =
-      let place : rules_of.Place = record { flow = Some after; pc = next.0; instruction = next.1; rest = later } in
-      let here : AreFrames Goes world code (Some after) (next ∷ later) (frame ∷ frames) = subst (λ f. AreFrames Goes world code f (next ∷ later) (frame ∷ frames)) is are in
-      let k = kept Goes world code place frame here.0 here.1 in
-      record { flow = Some after; frame = frame; others = frames; are = here; many = many; describes = flown after frame (given code next.0) stack locals here.0 k.into describes }
+      go false other start later =
+          let f = later start in
+          record { place = suc f.place; here = rw other f.here; frame = f.frame; there = f.there; flow = f.flow; at = f.at }
 
   module _ (all : List Working) (table : AreFrames Goes world code (Some (entry code)) code.instructions all) (as_many : length all ≡ length code.instructions) where
+    -- behind an instruction, with what flows out of it
+    stands_behind : (place : ℕ) (flow : Option Working) (after : Working) (rest : Instructions) (frames : List Working) (stack : List Value) (locals : Locals) → drop place code.instructions ≡ rest → ((other : Working) (others : List Working) → frames ≡ other ∷ others → slice_get all place ≡ Some other)
+        → flow ≡ Some after → AreFrames Goes world code flow rest frames → length frames ≡ length rest → (rest ≡ [] → ⊥) → Describes code after stack locals → Stands code all rest stack locals
+    stands_behind place flow after [] frames stack locals here there is are many past describes = absurd (past refl)
+    stands_behind place flow after (next ∷ later) [] stack locals here there is are many past describes = absurd (omega (arith, many))
+    stands_behind place flow after (next ∷ later) (frame ∷ frames) stack locals here there is are many past describes =
+        let at : rules_of.Place = record { flow = Some after; pc = next.0; instruction = next.1; rest = later } in
+        let mine : AreFrames Goes world code (Some after) (next ∷ later) (frame ∷ frames) = subst (λ f. AreFrames Goes world code f (next ∷ later) (frame ∷ frames)) is are in
+        let k = kept Goes world code at frame mine.0 mine.1 in
+        record { place = place; here = here; frame = frame; there = there frame frames refl; describes = flown after frame (given code next.0) stack locals mine.0 k.into describes }
+
     -- where a frame reaches
-    stands_at : (reaching : Working) (pc : ℕ) (stack : List Value) (locals : Locals) → Reaches Goes code reaching pc → Describes code reaching stack locals → Stands Goes world code (code_from pc code.instructions) stack locals
+    stands_at : (reaching : Working) (pc : ℕ) (stack : List Value) (locals : Locals) → Reaches Goes code reaching pc → Describes code reaching stack locals → Stands code all (code_from pc code.instructions) stack locals
     stands_at reaching pc stack locals reaches describes =
         let f = find pc code.instructions (Some (entry code)) all table as_many reaches.instruction in
-        record { flow = f.flow; frame = f.frame; others = f.others; are = f.are; many = f.many; describes = reached reaching f.frame (given code pc) f.flow stack locals f.at reaches.given describes }
-
-    -- a place that a run may come to
-    abbrev IsGood : Place → Locals → Type 0
-    IsGood (Before rest stack) locals = Stands Goes world code rest stack locals
-    IsGood (Returned value) locals = Unit {0}
-
-    abbrev Good : Outcome Locals Place → Type 0
-    Good = Ends (λ place next. IsGood place next.store) (λ reference next. Unit {0})
+        record { place = f.place; here = f.here; frame = f.frame; there = f.there; describes = reached reaching f.frame (given code pc) f.flow stack locals f.at reaches.given describes }
 
     -- ---- exceptions
 
@@ -163,14 +182,14 @@ module _ (Goes : Assignability) (keeps : (from to : JType) → Goes from to → 
     thrown_describes class frame stack locals reference is describes = record { on_stack = more (object is is) none; in_locals = describes.in_locals; room = describes.room }
 
     -- an outcome of an instruction, and the handler of what it throws
-    caught_good : (pc : ℕ) (frame : Working) (stack : List Value) (locals : Locals) (Leads : Place → Locals → Type 0) → ((place : Place) (now : Locals) → Leads place now → IsGood place now) → All (λ handler. Covers handler pc → HandlerTakes Goes code frame handler) code.handlers → Describes code frame stack locals
-        → (outcome : Outcome Locals Place) → Ends (λ place next. Leads place next.store) (ThrowsFrom locals) outcome → Good (caught headers code pc outcome)
-    caught_good pc frame stack locals Leads f handlers describes (Is place state) h = f place state.store h
-    caught_good pc frame stack locals Leads f handlers describes (Stops More state) h = tt
-    caught_good pc frame stack locals Leads f handlers describes (Stops Stuck state) h = h
-    caught_good pc frame stack locals Leads f handlers describes (Stops (Throws reference) state) h = go (handler_for headers pc reference code.handlers) refl
+    caught_well : (pc : ℕ) (frame : Working) (stack : List Value) (locals : Locals) (Leads : Place → Locals → Type 0) → ((place : Place) (now : Locals) → Leads place now → StandsAt code all place now) → All (λ handler. Covers handler pc → HandlerTakes Goes code frame handler) code.handlers → Describes code frame stack locals
+        → (outcome : Outcome Locals Place) → Ends (λ place next. Leads place next.store) (ThrowsFrom locals) outcome → StepsWell code all (caught headers code pc outcome)
+    caught_well pc frame stack locals Leads f handlers describes (Is place state) h = f place state.store h
+    caught_well pc frame stack locals Leads f handlers describes (Stops More state) h = tt
+    caught_well pc frame stack locals Leads f handlers describes (Stops Stuck state) h = h
+    caught_well pc frame stack locals Leads f handlers describes (Stops (Throws reference) state) h = go (handler_for headers pc reference code.handlers) refl
       where
-        go : (found : Option ℕ) → handler_for headers pc reference code.handlers ≡ found → Good (caught headers code pc (Stops (Throws reference) state))
+        go : (found : Option ℕ) → handler_for headers pc reference code.handlers ≡ found → StepsWell code all (caught headers code pc (Stops (Throws reference) state))
         go None is = rw is tt
         go (Some target) is =
             let handler = handled pc reference frame code.handlers target handlers is in
@@ -179,17 +198,28 @@ module _ (Goes : Assignability) (keeps : (from to : JType) → Goes from to → 
 
     -- ---- steps
 
-    step_good : (rest : Instructions) (stack : List Value) (state : State Locals) → Stands Goes world code rest stack state.store → Good (caught headers code (pc_of rest) (step_first headers local_slots code rest stack state))
-    step_good [] stack state stands = absurd stands.are
-    step_good (first ∷ rest) stack state stands =
-        caught_good first.0 stands.frame stack state.store (LeadsOn site after) leads k.handlers stands.describes (step headers local_slots code (meaning_of headers code.class first.1) rest stack state)
+    step_well : (rest : Instructions) (stack : List Value) (state : State Locals) → Stands code all rest stack state.store → StepsWell code all (caught headers code (pc_of rest) (step_first headers local_slots code rest stack state))
+    step_well [] stack state stands =
+        let at = frames_at stands.place code.instructions (Some (entry code)) all stands.frame table as_many stands.there in
+        absurd (subst (λ part. AreFrames Goes world code at.flow part (stands.frame ∷ at.others)) stands.here at.are)
+    step_well (first ∷ rest) stack state stands =
+        caught_well first.0 stands.frame stack state.store (LeadsOn site after) leads k.handlers stands.describes (step headers local_slots code (meaning_of headers code.class first.1) rest stack state)
         (work_steps first.1 refl k.targets (record { operands = k.operands; describes = stands.describes; writes = k.writes; keeps = keeps }))
       where
+        at : FrameAt Goes world code stands.place code.instructions all stands.frame
+        at = frames_at stands.place code.instructions (Some (entry code)) all stands.frame table as_many stands.there
+
+        are : AreFrames Goes world code at.flow (first ∷ rest) (stands.frame ∷ at.others)
+        are = subst (λ part. AreFrames Goes world code at.flow part (stands.frame ∷ at.others)) stands.here at.are
+
+        many : suc (length at.others) ≡ suc (length rest)
+        many = at.many ∙ ap length stands.here
+
         place : rules_of.Place
-        place = record { flow = stands.flow; pc = first.0; instruction = first.1; rest = rest }
+        place = record { flow = at.flow; pc = first.0; instruction = first.1; rest = rest }
 
         k : Kept Goes world code place stands.frame
-        k = kept Goes world code place stands.frame stands.are.0 stands.are.1
+        k = kept Goes world code place stands.frame are.0 are.1
 
         after : Working
         after = effect_at code place stands.frame
@@ -197,24 +227,45 @@ module _ (Goes : Assignability) (keeps : (from to : JType) → Goes from to → 
         site : Site
         site = record { Goes = Goes; world = world; headers = headers; code = code; pc = first.0; rest = rest; falls = falls first.1; Target = Reaches Goes code after; frame = stands.frame; stack = stack; state = state }
 
-        leads : (place : Place) (locals : Locals) → LeadsOn site after place locals → IsGood place locals
-        leads place locals (behind {stack = next} falling describes) =
-            stands_behind (flow_behind code (record { flow = stands.flow; pc = first.0; instruction = first.1; rest = rest }) stands.frame) after rest stands.others next locals (rw falling refl) stands.are.2 (omega (arith, stands.many)) (k.past falling) describes
-        leads place locals (jump {stack = next} target reaches describes) = stands_at after target next locals reaches describes
-        leads place locals out = tt
+        leads : (to : Place) (locals : Locals) → LeadsOn site after to locals → StandsAt code all to locals
+        leads to locals (behind {stack = next} falling describes) =
+            stands_behind (suc stands.place) (flow_behind code place stands.frame) after rest at.others next locals (drop_next stands.place code.instructions first rest stands.here) at.next (rw falling refl) are.2 (omega (arith, many)) (k.past falling) describes
+        leads to locals (jump {stack = next} target reaches describes) = stands_at after target next locals reaches describes
+        leads to locals out = tt
+
+    -- ---- runs
 
     abbrev Unstuck : Outcome Locals (Option Value) → Type 0
     Unstuck = Ends (λ value next. Unit {0}) (λ reference next. Unit {0})
 
-    onward_good : (go_on : Instructions → List Value → State Locals → Outcome Locals (Option Value)) → ((rest : Instructions) (stack : List Value) (state : State Locals) → Stands Goes world code rest stack state.store → Unstuck (go_on rest stack state)) → (place : Place) (state : State Locals) → IsGood place state.store → Unstuck (onward go_on place state)
-    onward_good go_on h (Before rest stack) state good = h rest stack state good
-    onward_good go_on h (Returned value) state good = tt
+    well_ended : (outcome : Outcome Locals Place) → StepsWell code all outcome → Ends (λ place next. StandsAt code all place next.store) (λ reference next. Unit {0}) outcome
+    well_ended (Is place state) h = h
+    well_ended (Stops (Throws reference) state) h = tt
+    well_ended (Stops More state) h = tt
+    well_ended (Stops Stuck state) h = h
 
-    runs_good : (bound : ℕ) (rest : Instructions) (stack : List Value) (state : State Locals) → Stands Goes world code rest stack state.store → Unstuck (steps headers local_slots code bound rest stack state)
-    runs_good zero rest stack state stands = tt
-    runs_good (suc bound) rest stack state stands =
-        ends-bind (λ place next. IsGood place next.store) (λ value next. Unit {0}) (λ reference next. Unit {0}) (caught headers code (pc_of rest) (step_first headers local_slots code rest stack state)) (onward (steps headers local_slots code bound))
-        (step_good rest stack state stands) (onward_good (steps headers local_slots code bound) (runs_good bound))
+    onward_well : (go_on : Instructions → List Value → State Locals → Outcome Locals (Option Value)) → ((rest : Instructions) (stack : List Value) (state : State Locals) → Stands code all rest stack state.store → Unstuck (go_on rest stack state)) → (place : Place) (state : State Locals) → StandsAt code all place state.store → Unstuck (onward go_on place state)
+    onward_well go_on h (Before rest stack) state stands = h rest stack state stands
+    onward_well go_on h (Returned value) state stands = tt
+
+    runs_well : (bound : ℕ) (rest : Instructions) (stack : List Value) (state : State Locals) → Stands code all rest stack state.store → Unstuck (steps headers local_slots code bound rest stack state)
+    runs_well zero rest stack state stands = tt
+    runs_well (suc bound) rest stack state stands =
+        ends-bind (λ place next. StandsAt code all place next.store) (λ value next. Unit {0}) (λ reference next. Unit {0}) (caught headers code (pc_of rest) (step_first headers local_slots code rest stack state)) (onward (steps headers local_slots code bound))
+        (well_ended (caught headers code (pc_of rest) (step_first headers local_slots code rest stack state)) (step_well rest stack state stands)) (onward_well (steps headers local_slots code bound) (runs_well bound))
+
+-- ---- typed code
+
+pub steps_well : (world : List Header) (typed : Typed) → IsTyped (Laxly world) world typed → (headers : List Header) (rest : Instructions) (stack : List Value) (state : State Locals) → Stands typed.code (table_of typed) rest stack state.store
+    → StepsWell typed.code (table_of typed) (caught headers typed.code (pc_of rest) (step_first headers local_slots typed.code rest stack state))
+steps_well world typed table headers rest stack state stands = step_well (Laxly world) (lax_shape world) world headers typed.code (table_of typed) table.are table.number rest stack state stands
+
+pub stands_first : (world : List Header) (typed : Typed) → typed.code.instructions ≢ [] → IsTyped (Laxly world) world typed → (headers : List Header) (arguments : List Value) → AreArgumentsOf headers typed.code arguments
+    → Stands typed.code (table_of typed) typed.code.instructions [] (first_locals typed.code.max_locals arguments)
+stands_first world typed some table headers arguments fit =
+    let code = typed.code in
+    stands_behind (Laxly world) (lax_shape world) world headers code (table_of typed) table.are table.number 0 (Some (entry code)) (entry code) code.instructions (table_of typed) [] (first_locals code.max_locals arguments) refl (first_there (table_of typed)) refl table.are table.number some
+    (entry_describes headers code arguments fit)
 
 unstuck : (outcome : Outcome Locals (Option Value)) → Ends (λ value next. Unit {0}) (λ reference next. Unit {0}) outcome → ¬ IsStuck outcome
 unstuck (Is value state) h stuck = stuck
@@ -225,11 +276,8 @@ unstuck (Stops Stuck state) h stuck = h
 pub never_wrong : (world : List Header) (typed : Typed) → typed.code.instructions ≢ [] → IsTyped (Laxly world) world typed → NeverGoesWrong typed.code
 never_wrong world typed some table headers arguments fit answers bound =
     let code = typed.code in
-    let frames : List Working = map top_down typed.frames in
-    let stands : Stands (Laxly world) world code code.instructions [] (first_locals code.max_locals arguments) =
-    stands_behind (Laxly world) (lax_shape world) world headers code (Some (entry code)) (entry code) code.instructions frames [] (first_locals code.max_locals arguments) refl table.are table.number some (entry_describes headers code arguments fit) in
     unstuck (run headers code arguments answers bound)
-    (runs_good (Laxly world) (lax_shape world) world headers code frames table.are table.number bound code.instructions [] (record { store = first_locals code.max_locals arguments; world = opening answers }) stands)
+    (runs_well (Laxly world) (lax_shape world) world headers code (table_of typed) table.are table.number bound code.instructions [] (record { store = first_locals code.max_locals arguments; world = opening answers }) (stands_first world typed some table headers arguments fit))
 
 -- code that is read has an instruction, since it has a byte
 code_some : (class : ClassOf) (method : MethodOf) (code : Code) → SpellsCode class method code → code.instructions ≢ []

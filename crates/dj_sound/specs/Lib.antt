@@ -1,2 +1,3 @@
--- What the law says.
+-- What the laws say, in reading order.
+pub mod States
 pub mod Runs

@@ -1,8 +1,8 @@
 //! Typed code never goes wrong: no run of it lacks an operand or meets one of a wrong kind.
 //! It stands on `dj_verify` for which code is typed, on `dj_bytecode` for what code does, and on `dj_typed_states` for what a frame says of a state.
-//! The layer above uses the law, `typed_code_never_goes_wrong`.
+//! The layers above use the laws: `typed_runs_stand`, which says it of each step, and `typed_code_never_goes_wrong`.
 #![tactic(auto)]
 
 mod laws;
 
-pub use laws::typed_code_never_goes_wrong;
+pub use laws::{typed_code_never_goes_wrong, typed_runs_stand};
