@@ -1,32 +1,29 @@
 -- A file whose indices lead where those of another lead is as lawful, and describes the same class.
-use Rattle.std.proofs.Common.{◌≡◌, ◌⊎◌, ℕ, ◌+◌, ◌<◌, ◌≤◌, ◌^◌, ◌&&◌, ◌==◌, nat_le, Bool, true, false, List, [], ◌∷◌, ◌++◌, length, map, filter, flat_map, Option, Some, None, IsTrue, slice_get, refl, sym, ap, subst, ◌∙◌, inl, inr, arith, if◌then◌else◌}
-use Rattle.std.specs.Prelude.{IsSomeAnd, IsBitSet}
+use Rattle.std.proofs.Common.{◌≡◌, ℕ, ◌<◌, ◌≤◌, ◌&&◌, nat_le, List, [], ◌∷◌, length, filter, flat_map, Option, Some, None, IsTrue, refl, sym, ap, subst, ◌∙◌, inl, inr, arith}
+use Rattle.std.specs.Prelude.{IsSomeAnd}
 use Rattle.std.specs.List.{All, AllByRecursion, AllZip}
-use Rattle.std.specs.Option.{option_and_then}
 use Rattle.std.proofs.lemmas.Bool.Decides.{nat_tests}
 use Rattle.std.proofs.lemmas.List.Elements.{All-from_recursion, recursion_from_All}
-use Rattle.std.proofs.lemmas.Option.{none-some, same_Some}
+use Rattle.std.proofs.lemmas.Option.{none-some}
 use Rattle.dj_layout.specs.Layout.{Layout}
 use Rattle.dj_layout.specs.Parts.{number}
-use Rattle.dj_names.specs.Assignable.{object_name}
 use Rattle.dj_names.specs.ClassNames.{IsClassName}
 use Rattle.dj_names.specs.Headers.{Name}
 use Rattle.dj_pool.specs.declared.entry.Entry.{Entry}
 use Rattle.dj_pool.specs.declared.entry.Entry.TheVariants as entry
 use Rattle.dj_pool.specs.declared.fault.BrokenKind.{BrokenKind}
 use Rattle.dj_pool.specs.declared.raw.Attribute.{Attribute}
-use Rattle.dj_pool.specs.PoolFormat.{IsClassIndex, class_at, first_with, isnt_skip, pool, spread, text_at}
+use Rattle.dj_pool.specs.PoolFormat.{IsClassIndex, class_at, isnt_skip, pool, spread}
 use Rattle.dj_pool.specs.SharedParts.{counted, u2}
-use Rattle.dj_class.specs.declared.front.Front.{Front}
 use Rattle.dj_class.specs.Members.{RawMember}
-use Rattle.dj_class.specs.Described.{ClassOf, DescribesClass, DescribesField, DescribesMethod, FieldOf, MethodOf, SpellsClass}
-use Rattle.dj_class.specs.FileFormat.{HasClassFlags, IsSuperIndex, LeadsTo, Own, Raw, Rest, class_indices, field, file, front, lawful_own, lawful_rest, method, named, sound}
+use Rattle.dj_class.specs.Described.{ClassOf, DescribesClass, DescribesField, DescribesMethod, SpellsClass}
+use Rattle.dj_class.specs.FileFormat.{HasClassFlags, IsSuperIndex, LeadsTo, Own, Raw, Rest, field, file, front, lawful_own, lawful_rest, method, named, sound}
 use Rattle.dj_class.proofs.FileIsFiner.{sound_is_laid_out}
 use Rattle.dj_write.specs.Found.{IsLed}
 use Rattle.dj_write.specs.declared.members.RawMember as code
 use Rattle.dj_write.specs.Files.{view_members}
 use Rattle.dj_write.specs.Written.{AreClasses, AreRaws, HasClasses, HasFile, HasSuper, IsDescribed, IsFileOf, IsSuper, LeadsIn}
-use Rattle.dj_write.proofs.MemberParts.{AreKnown, are_known, classes_fit, has_classes, on_some, zip_number}
+use Rattle.dj_write.proofs.MemberParts.{are_known, classes_fit, has_classes, zip_number}
 
 -- ---- index 0
 

@@ -1,13 +1,7 @@
--- Tables of a pool, as indices are kept and found.
-use Rattle.std.proofs.Common.{◌≡◌, ◌⊎◌, ℕ, zero, suc, ◌+◌, ◌<◌, List, [], ◌∷◌, length, false, Option, Some, None, IsSome, is_some, slice_get, refl, sym, ap, subst, inl, inr, ◌∙◌, arith}
-use Rattle.std.specs.declared.cmp.Ordering.{Ordering}
+-- Indices that are found in the tables of a pool.
+use Rattle.std.proofs.Common.{◌≡◌, ℕ, zero, suc, ◌<◌, List, [], ◌∷◌, length, Option, Some, None, is_some, slice_get, refl, sym, ap, ◌∙◌, arith}
 use Rattle.std.specs.Option.{option_map, option_and_then}
-use Rattle.std.specs.Map.{lookup}
-use Rattle.std.specs.BTreeMap as tree
-use Rattle.std.specs.BTreeMap.{BTreeMap, IsEmpty, Updates, is_at}
-use Rattle.std.proofs.lemmas.Bool.{cases_Bool, false≢true}
-use Rattle.std.proofs.lemmas.Map.Lookups.{CmpEqualImpliesEq}
-use Rattle.std.proofs.lemmas.Map.Views.{tells_apart}
+use Rattle.std.proofs.lemmas.Bool.{false≢true}
 use Rattle.std.proofs.lemmas.Option.{none-some, same_Some}
 use Rattle.dj_names.specs.declared.members.Constant.{Constant}
 use Rattle.dj_names.specs.declared.members.Constant.TheVariants as constant
@@ -17,56 +11,6 @@ use Rattle.dj_class.specs.Described.{constant_of}
 use Rattle.dj_write.specs.declared.constants.ConstantKey.{ConstantKey}
 use Rattle.dj_write.specs.declared.constants.ConstantKey.TheVariants as key
 use Rattle.dj_write.specs.Found.{Finds, IsLed, constant_at, key_at, key_of}
-
--- ---- keeping
-
-last_or_before : (index at : ℕ) → index < at + 1 → (index ≡ at) ⊎ (index < at)
-last_or_before zero zero within = inl refl
-last_or_before zero (suc at) within = inr (omega arith)
-last_or_before (suc index) zero within = absurd (omega arith)
-last_or_before (suc index) (suc at) within = elim (last_or_before index at (omega arith)) [ inl same ↦ inl (ap suc same) | inr before ↦ inr (omega arith) ]
-
-pub finds_none : {K : Type 0} (cmp : K → K → Ordering) (led : ℕ → Option K) (m : BTreeMap K ℕ) → IsEmpty m → Finds led 0 (tree.get cmp m)
-finds_none {K = K} cmp led m empty = record {
-  right = λ found index is. absurd (none-some index (sym (ap (λ (es : List (K × ℕ)). lookup (is_at (cmp found)) es) empty) ∙ is));
-  each = λ found index within is. absurd (omega arith);
-}
-
-pub finds_past : {K : Type 0} (led : ℕ → Option K) (at : ℕ) (index_of : K → Option ℕ) → led at ≡ None → Finds led at index_of → Finds led (at + 1) index_of
-finds_past led at index_of none finds = record {
-  right = finds.right;
-  each = λ found index within is. elim (last_or_before index at within) [
-    | inl same ↦ absurd (none-some found (sym none ∙ ap led (sym same) ∙ is))
-    | inr before ↦ finds.each found index before is
-  ];
-}
-
-some_is : {A : Type 0} (o : Option A) (x : A) → o ≡ Some x → IsSome o
-some_is o x is = ap is_some is
-
-pub finds_more : {K : Type 0} (cmp : K → K → Ordering) → CmpEqualImpliesEq cmp → (led : ℕ → Option K) (at : ℕ) (k : K) (m n : BTreeMap K ℕ) → led at ≡ Some k → Updates cmp m n k (Some at)
-    → Finds led at (tree.get cmp m) → Finds led (at + 1) (tree.get cmp n)
-finds_more {K = K} cmp exact led at k m n leads updates finds =
-    let here : tree.get cmp n k ≡ Some at = updates.1 in
-    let apart : (other : K) → is_at (cmp k) other ≡ false → tree.get cmp n other ≡ tree.get cmp m other = updates.2 in
-    record {
-      right = λ found index is. elim (cases_Bool (is_at (cmp k) found)) [
-        | inl same ↦ (let one : k ≡ found = tells_apart exact k found same in
-            let place : at ≡ index = same_Some at index (sym here ∙ ap (tree.get cmp n) one ∙ is) in
-            ap led (sym place) ∙ leads ∙ ap Some one)
-        | inr other ↦ finds.right found index (sym (apart found other) ∙ is)
-      ];
-      each = λ found index within is. elim (cases_Bool (is_at (cmp k) found)) [
-        | inl same ↦ some_is (tree.get cmp n found) at (ap (tree.get cmp n) (sym (tells_apart exact k found same)) ∙ here)
-        | inr other ↦ elim (last_or_before index at within) [
-          | inl last ↦ (let one : k ≡ found = same_Some k found (sym leads ∙ ap led (sym last) ∙ is) in
-              some_is (tree.get cmp n found) at (ap (tree.get cmp n) (sym one) ∙ here))
-          | inr before ↦ rw (apart found other) (finds.each found index before is)
-        ]
-      ];
-    }
-
--- ---- finding
 
 -- what an index leads to has an index
 pub is_found : {A : Type 0} (led : ℕ → Option A) (so_many : ℕ) (index_of : A → Option ℕ) (found : A) → Finds led so_many index_of → IsLed led found

@@ -1,10 +1,10 @@
 -- Fields and methods whose indices lead where those of a file lead are as lawful, and describe the same.
-use Rattle.std.proofs.Common.{◌≡◌, ◌≢◌, ◌⊎◌, ◌↔◌, ℕ, suc, ◌+◌, ◌*◌, ◌<◌, ◌^◌, List, [], ◌∷◌, ◌++◌, length, Option, Some, None, is_some, codes, refl, sym, ap, subst, ◌∙◌, inl, inr, arith}
+use Rattle.std.proofs.Common.{◌≡◌, ◌↔◌, ℕ, suc, ◌<◌, List, [], ◌∷◌, ◌++◌, length, Option, Some, None, is_some, codes, refl, sym, ap, subst, ◌∙◌, inl, inr, arith}
 use Rattle.std.specs.Prelude.{IfSome, IsSome, IsSomeAnd}
-use Rattle.std.specs.List.{All, AllByRecursion, AllZip}
-use Rattle.std.specs.Option.{option_and_then, option_to_list}
+use Rattle.std.specs.List.{AllByRecursion, AllZip}
+use Rattle.std.specs.Option.{option_to_list}
 use Rattle.std.proofs.lemmas.List.Elements.{All-from_recursion, recursion_from_All}
-use Rattle.std.proofs.lemmas.Option.{none-some, same_Some}
+use Rattle.std.proofs.lemmas.Option.{none-some}
 use Rattle.dj_layout.specs.Layout.{IsBytes}
 use Rattle.dj_layout.specs.Parts.{number}
 use Rattle.dj_layout.specs.Whole.{IsWhole}
@@ -21,12 +21,11 @@ use Rattle.dj_pool.specs.PoolFormat.{IsClassIndex, IsFieldText, IsMethodText, cl
 use Rattle.dj_pool.specs.SharedParts.{attribute, counted, u2}
 use Rattle.dj_pool.proofs.AttributeContents.{contents_named, contents_other}
 use Rattle.dj_pool.proofs.SharedAreExact.{exact-counted, exact-u2}
-use Rattle.dj_class.specs.Members.{RawMember}
 use Rattle.dj_class.specs.Described.{DescribesField, DescribesMethod, FieldOf, IsConstant, IsThrown, MethodOf}
-use Rattle.dj_class.specs.FileFormat.{HasBodyAs, HasFieldFlags, HasOneAccess, IsConstantIndex, IsBodiless, IsConstantValue, IsExceptions, LeadsTo, class_indices, counted_in_turn, field, index_of, lawful_in_field, lawful_in_method, method, method_attributes}
+use Rattle.dj_class.specs.FileFormat.{HasBodyAs, HasFieldFlags, HasOneAccess, IsConstantIndex, IsBodiless, IsConstantValue, IsExceptions, LeadsTo, class_indices, counted_in_turn, field, index_of, lawful_in_field, lawful_in_method, method}
 use Rattle.dj_class.proofs.FileIsFiner.{classes_plain, method_attributes_plain}
 use Rattle.dj_write.specs.Found.{IsLed, constant_at}
-use Rattle.dj_write.specs.Written.{AreClasses, AreOfField, AreOfMethod, HasClasses, HasCodeName, HasConstant, HasThrown, IsConstantContent, IsDescribed, IsExceptionsContent, IsPushed, LeadsIn, PushesCode, PushesExceptions}
+use Rattle.dj_write.specs.Written.{AreClasses, AreOfField, AreOfMethod, HasClasses, HasCodeName, HasConstant, HasThrown, IsDescribed, IsExceptionsContent, LeadsIn, PushesCode, PushesExceptions}
 use Rattle.dj_write.proofs.AttributeParts.{IsThere, attribute_fits, each_in_turn, index_back, index_bytes, index_long, indices_bytes, indices_long, named_there, same_tag}
 
 -- ---- names and descriptors

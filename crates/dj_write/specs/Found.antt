@@ -1,8 +1,6 @@
 -- What indices of a pool lead to, and how an index is found by it (JVMS 4.4).
-use Rattle.std.specs.Prelude.{◌≡◌, ℕ, ◌<◌, List, length, slice_get, Option, Some, IsSome}
+use Rattle.std.specs.Prelude.{◌≡◌, ℕ, ◌<◌, List, slice_get, Option, Some, IsSome}
 use Rattle.std.specs.declared.cmp.Ordering.{Ordering}
-use Rattle.std.specs.BTreeMap as tree
-use Rattle.std.specs.BTreeMap.{BTreeMap}
 use Rattle.std.specs.Option.{option_map, option_and_then}
 use Rattle.dj_names.specs.declared.members.Constant.{Constant}
 use Rattle.dj_names.specs.declared.members.Constant.TheVariants as constant

@@ -1,5 +1,4 @@
 -- Keys that compare as equal are the same.
-use Rattle.std.specs.Prelude.{◌≡◌}
 use Rattle.std.proofs.Common.{ap}
 use Rattle.std.proofs.lemmas.Map.Lookups.{CmpEqualImpliesEq, exact_bytes, exact_signed, exact_unsigned}
 use Rattle.dj_write.specs.declared.constants.ConstantKey.TheVariants as key

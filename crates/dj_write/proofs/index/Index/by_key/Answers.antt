@@ -1,4 +1,4 @@
-use Rattle.std.proofs.Common.{◌≡◌, ℕ, List, Some, length, sym, ap, subst, ◌∙◌, rules}
+use Rattle.std.proofs.Common.{◌≡◌, List, Some, length, sym, ap, subst, ◌∙◌, rules}
 use Rattle.std.specs.BTreeMap as tree
 use Rattle.std.specs.Option.{option_copied}
 use Rattle.dj_pool.specs.declared.entry.Entry.{Entry}
