@@ -1,1 +1,7 @@
 pub mod Spelled
+pub mod Finding
+pub mod AttributeParts
+pub mod MemberParts
+pub mod FileParts
+pub mod FileRoom
+pub mod ListParts

@@ -32,7 +32,7 @@ pub struct RawFile {
 }
 
 /// Indices behind their number.
-fn put_indices(out: &mut Vec<u8>, indices: &[u16]) -> Result<(), AllocError>
+pub(crate) fn put_indices(out: &mut Vec<u8>, indices: &[u16]) -> Result<(), AllocError>
     requires few { length indices.now < 2 ^ 16 }
     ensures put { Appends (counted u2) indices.now out.old.items out.new.items result }
 {
