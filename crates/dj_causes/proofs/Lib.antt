@@ -4,4 +4,5 @@ pub mod FieldCauseLemmas
 pub mod LeastLemmas
 pub mod HeadLemmas
 pub mod BareCauseLemmas
+pub mod ToldLemmas
 pub mod Examples

@@ -1,19 +1,22 @@
 -- What is made once of a class to tell the causes of it and of its members.
-use Rattle.std.specs.Prelude.{◌≡◌, ◌≢◌, ◌⊎◌, Option, Some, None, MatchOption}
+use Rattle.std.specs.Prelude.{◌≡◌, ◌≢◌, ◌⊎◌, ℕ, List, length, slice_get, Option, Some, None, MatchOption}
 use Rattle.std.specs.declared.cmp.Ordering.TheVariants.{Less}
 use Rattle.std.specs.Ordering.{nat_cmp}
 use Rattle.std.specs.Cmp.Lexicographic.{slice_cmp}
 use Rattle.dj_names.specs.Headers.{Name}
-use Rattle.dj_class.specs.Described.{ClassOf}
+use Rattle.dj_class.specs.Described.{ClassOf, MethodOf}
 use Rattle.dj_world.specs.Worlds.{WorldOf}
 use Rattle.dj_sayable.specs.Above.{IsAtOrAbove}
 use Rattle.dj_sayable.specs.Scopes.{IsScope}
-use Rattle.dj_signatures.specs.Signatures.{method_names}
+use Rattle.dj_signatures.specs.Signatures.{method_names, TellsRivals}
+use Rattle.dj_causes.specs.declared.cause.Cause.{Cause}
+use Rattle.dj_causes.specs.declared.cause.FieldCause.{FieldCause}
 use Rattle.dj_causes.specs.declared.causes.Causes.{Causes}
+use Rattle.dj_causes.specs.declared.tables.Tables.{Tables}
 use Rattle.dj_causes.specs.Firsts.{IsLeastName}
 use Rattle.dj_causes.specs.ClassCauses.{IsSaid}
-use Rattle.dj_causes.specs.FieldCauses.{field_names}
-use Rattle.dj_causes.specs.BareCauses.{IsCommon}
+use Rattle.dj_causes.specs.FieldCauses.{IsFieldCause, field_names}
+use Rattle.dj_causes.specs.BareCauses.{IsCommon, IsUnsaid, IsBareCause}
 
 -- a name that can't be said among those of some classes and all above them
 abbrev pub IsUnsaidAbove : WorldOf → Name → (Name → Type 0) → Name → Type 0
@@ -30,9 +33,31 @@ IsLesser (Some first) (Some second) found =
 abbrev pub IsLeastIfAny : (Name → Type 0) → Option Name → Type 0
 IsLeastIfAny P found = MatchOption found ((name : Name) → ¬ P name) (IsLeastName P)
 
--- the tables are those of a class: its scope, its members' names, and the least unsaid name that all of its methods share
+-- the tables are those of a class: its scope, its members' names, which of its methods have rivals, and the least unsaid name that all of its methods share
+pub record AreTables (world : WorldOf) (class : ClassOf) (tables : Tables) : Type 0 where
+  pub scope : IsScope world.headers world.members class.this_class tables.scope
+  pub fields : tables.fields ≡ field_names class.fields
+  pub methods : tables.methods ≡ method_names class.methods
+  pub rivals : TellsRivals class.methods tables.rivals
+  pub common : IsLeastIfAny (IsUnsaidAbove world class.this_class (IsCommon class)) tables.common
+
+-- the first cause of each field of a class, in file order
+pub record TellsFields (world : WorldOf) (class : ClassOf) (found : List (Option FieldCause)) : Type 0 where
+  pub size : length found ≡ length class.fields
+  pub each : (at : ℕ) (cause : Option FieldCause) → slice_get found at ≡ Some cause → IsFieldCause world class at cause
+
+-- the first cause of the method at a place, where it has no code; its text can say each of its names where it has none
+pub record IsToldOf (world : WorldOf) (class : ClassOf) (at : ℕ) (cause : Option Cause) : Type 0 where
+  pub first : (method : MethodOf) → slice_get class.methods at ≡ Some method → method.code ≡ None → IsBareCause world class at cause
+  pub said : (method : MethodOf) → slice_get class.methods at ≡ Some method → method.code ≡ None → cause ≡ None → (name : Name) → ¬ IsUnsaid world class method name
+
+-- the first cause of each method of a class that has no code, in file order
+pub record TellsMethods (world : WorldOf) (class : ClassOf) (found : List (Option Cause)) : Type 0 where
+  pub size : length found ≡ length class.methods
+  pub each : (at : ℕ) (cause : Option Cause) → slice_get found at ≡ Some cause → IsToldOf world class at cause
+
+-- the causes are those of a class: its tables, and the causes of its members
 pub record AreCauses (world : WorldOf) (class : ClassOf) (causes : Causes) : Type 0 where
-  pub scope : IsScope world.headers world.members class.this_class causes.scope
-  pub fields : causes.fields ≡ field_names class.fields
-  pub methods : causes.methods ≡ method_names class.methods
-  pub common : IsLeastIfAny (IsUnsaidAbove world class.this_class (IsCommon class)) causes.common
+  pub tables : AreTables world class causes.tables
+  pub fields : TellsFields world class causes.fields
+  pub methods : TellsMethods world class causes.methods

@@ -1,6 +1,9 @@
 //! Why a class, a field or a method isn't printed.
 
+ghost use Rattle.std.specs.Prelude.{◌≡◌, IfOk};
+
 use dj_names::{ClassName, Units};
+use std::alloc::{AllocError, Global};
 
 /// Why a class isn't printed.
 #[derive(Drop)]
@@ -43,4 +46,38 @@ pub enum Cause {
     Unborn(u32),
     /// So many blocks, or so many instructions in a birth.
     Large(u32),
+}
+
+impl FieldCause {
+    /// An equal cause, which shares its name with this one.
+    pub fn copy(&self, alloc: Global) -> Result<FieldCause, AllocError>
+        ensures equal { IfOk result (λ copy. copy ≡ self.now) }
+    {
+        match self {
+            FieldCause::Name(name) => Ok(FieldCause::Name(name.copy(alloc)?)),
+            FieldCause::Signature => Ok(FieldCause::Signature),
+            FieldCause::Constant => Ok(FieldCause::Constant),
+        }
+    }
+}
+
+impl Cause {
+    /// An equal cause, which shares its name with this one.
+    pub fn copy(&self, alloc: Global) -> Result<Cause, AllocError>
+        ensures equal { IfOk result (λ copy. copy ≡ self.now) }
+    {
+        match self {
+            Cause::Float(pc) => Ok(Cause::Float(*pc)),
+            Cause::Dynamic(pc) => Ok(Cause::Dynamic(*pc)),
+            Cause::Missing(class) => Ok(Cause::Missing(class.copy(alloc)?)),
+            Cause::Name(name) => Ok(Cause::Name(name.copy(alloc)?)),
+            Cause::Signature => Ok(Cause::Signature),
+            Cause::Member(pc) => Ok(Cause::Member(*pc)),
+            Cause::Interface(pc) => Ok(Cause::Interface(*pc)),
+            Cause::Monitor(pc) => Ok(Cause::Monitor(*pc)),
+            Cause::BeforeSuper(pc) => Ok(Cause::BeforeSuper(*pc)),
+            Cause::Unborn(pc) => Ok(Cause::Unborn(*pc)),
+            Cause::Large(count) => Ok(Cause::Large(*count)),
+        }
+    }
 }

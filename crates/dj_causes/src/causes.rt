@@ -1,126 +1,177 @@
-//! What is made once of a class to tell the causes of it and of its members, and the causes.
+//! The causes of a class and of its members; each member's is found once.
 
-ghost use Rattle.std.specs.Prelude.{◌≡◌, ◌↔◌, ◌<◌, List, [], ◌∷◌, ◌++◌, Some, None, map, length, MatchOption, Contains, IsTrue, IsSomeAnd, OnOk, IfOk, slice_get};
-ghost use Rattle.dj_names.specs.Headers.{Name};
-ghost use Rattle.dj_names.specs.Types.{view_descriptor};
-ghost use Rattle.dj_world.specs.Named.{NamesClass};
+ghost use Rattle.std.specs.Prelude.{◌≡◌, ◌↔◌, ◌<◌, None, length, map, Contains, IsTrue, IsSomeAnd, IfOk, slice_get};
 ghost use Rattle.dj_class.specs.Described.{ClassOf};
-ghost use Rattle.dj_class.specs.Views.{view_class, view_field, view_method};
+ghost use Rattle.dj_class.specs.Views.{view_class};
 ghost use Rattle.dj_world.specs.Worlds.{WorldOf};
-ghost use Rattle.dj_causes.specs.ClassCauses.{IsFirstUnsaid, IsClassCause};
-ghost use Rattle.dj_causes.specs.FieldCauses.{IsRepeated, IsUnsaidInField, IsFieldCause, field_names};
-ghost use Rattle.dj_causes.specs.BareCauses.{IsCommon, IsMethodName, IsUnsaid, IsBareCause};
+ghost use Rattle.dj_names.specs.Headers.{Name};
+ghost use Rattle.dj_causes.specs.ClassCauses.{IsClassCause};
+ghost use Rattle.dj_causes.specs.FieldCauses.{IsFieldCause};
+ghost use Rattle.dj_causes.specs.BareCauses.{IsUnsaid, IsBareCause};
 ghost use Rattle.dj_signatures.specs.Signatures.{method_names};
-ghost use Rattle.dj_causes.specs.Tables.{AreCauses, IsLeastIfAny, IsUnsaidAbove};
+ghost use Rattle.dj_causes.specs.Tables.{AreTables, AreCauses, TellsFields, TellsMethods, IsToldOf};
 
 use crate::cause::{Cause, ClassCause, FieldCause};
-use crate::class_causes::{
-    describes_package, first_unsaid_parent, is_annotation, is_enum, is_root, unset_name,
-};
-use crate::constants::has_wrong_constant;
-use crate::types::class_of;
-use crate::unsaid::{common_names, head_names, least_unsaid, lesser, units_of, unsaid_name};
-use dj_class::{ClassFile, Method};
-use dj_members::NameTable;
-use dj_names::{Field, Units, is_constructor, is_identifier, is_initialiser};
-use dj_sayable::{Scope, is_among};
-use dj_signatures::{breaks_signature, table_of};
+use crate::tables::Tables;
+use dj_class::ClassFile;
+use dj_names::{Items, Units};
 use dj_world::World;
 use std::alloc::{AllocError, Global};
+use std::collections::BTreeSet;
 
-/// What tells the causes of a class and of its members.
+/// The causes of a class and of its members.
 #[derive(Drop)]
 pub struct Causes {
-    scope: Scope,
-    fields: NameTable,
-    methods: NameTable,
-    /// The least name that the class can't say among those that the texts of all its methods share.
-    common: Option<Units>,
+    tables: Tables,
+    /// The cause of each field, if it has one, in file order.
+    fields: Items<Option<FieldCause>>,
+    /// The cause of each method without code, if it has one, in file order; none of one with code.
+    methods: Items<Option<Cause>>,
 }
 
-/// The names of fields, in order.
-fn names_of_fields(alloc: Global, fields: &[Field]) -> Result<NameTable, AllocError>
-    ensures names { IfOk result (λ names. names ≡ field_names (map view_field fields.now)) }
+/// An equal name, which shares its units with each that was given before.
+fn shared(alloc: Global, names: &mut BTreeSet<Units>, name: Units) -> Result<Units, AllocError>
+    ensures equal { IfOk result (λ shared. shared ≡ name) }
 {
-    let mut names = NameTable::new(alloc);
-    for field in fields {
-        names.push(&field.name)?;
-    }
-    Ok(names)
-}
-
-/// An equal name, if there is one.
-fn copy_units(alloc: Global, name: &Option<Units>) -> Result<Option<Units>, AllocError>
-    ensures equal { IfOk result (λ copy. copy ≡ name.now) }
-{
-    match name {
-        Some(units) => Ok(Some(units.copy(alloc)?)),
-        None => Ok(None),
+    match names.get(&name) {
+        Some(known) => Ok(known.copy(alloc)?),
+        None => {
+            names.insert(name.copy(alloc)?)?;
+            Ok(name)
+        }
     }
 }
 
-/// A method's name, where no text can say it.
-fn unsaid_method_name(alloc: Global, name: &Units) -> Result<Option<Units>, AllocError>
-    ensures unsaid { IfOk result (IsLeastIfAny (λ other. ¬ IsMethodName name.now × (other ≡ name.now))) }
+/// An equal cause, whose name is shared.
+fn share_field_cause(
+    alloc: Global,
+    names: &mut BTreeSet<Units>,
+    cause: Option<FieldCause>,
+) -> Result<Option<FieldCause>, AllocError>
+    ensures equal { IfOk result (λ shared. shared ≡ cause) }
 {
-    if is_method_name(name) {
-        Ok(None)
-    } else {
-        Ok(Some(name.copy(alloc)?))
+    match cause {
+        Some(FieldCause::Name(name)) => {
+            let name = shared(alloc, names, name)?;
+            Ok(Some(FieldCause::Name(name)))
+        }
+        other => Ok(other),
     }
 }
 
-/// Whether a name is an identifier, or that of a constructor or of a static initialiser.
-fn is_method_name(name: &Units) -> bool
-    ensures name { IsTrue result ↔ IsMethodName name.now }
+/// An equal cause, whose name is shared.
+fn share_cause(
+    alloc: Global,
+    names: &mut BTreeSet<Units>,
+    cause: Option<Cause>,
+) -> Result<Option<Cause>, AllocError>
+    ensures equal { IfOk result (λ shared. shared ≡ cause) }
 {
-    is_constructor(name) || is_initialiser(name) || is_identifier(name)
+    match cause {
+        Some(Cause::Name(name)) => {
+            let name = shared(alloc, names, name)?;
+            Ok(Some(Cause::Name(name)))
+        }
+        other => Ok(other),
+    }
 }
 
-/// The field at a place.
-fn field_at(class: &ClassFile, at: usize) -> &Field
-    requires within { at < length class.now.fields }
-    ensures there { slice_get (view_class class.now).fields at ≡ Some (view_field result.now) }
+/// The cause of each field of a class, if it has one.
+fn field_causes(
+    alloc: Global,
+    world: &World,
+    class: &ClassFile,
+    tables: &Tables,
+) -> Result<Items<Option<FieldCause>>, AllocError>
+    requires made { AreTables world.now (view_class class.now) tables.now }
+    ensures told { IfOk result (TellsFields world.now (view_class class.now)) }
 {
-    let fields = class.fields.as_slice();
-    &fields[at]
+    let mut causes = Items::new(alloc);
+    let mut names = BTreeSet::new(alloc);
+    for at in 0..class.fields.len() {
+        let found = tables.field_cause(alloc, world, class, at)?;
+        let cause = share_field_cause(alloc, &mut names, found)?;
+        causes.push(cause)?;
+    }
+    Ok(causes)
 }
 
-/// The method at a place.
-fn method_at(class: &ClassFile, at: usize) -> &Method
+/// The cause of the method at a place, if it has no code and has one.
+fn method_cause(
+    alloc: Global,
+    world: &World,
+    class: &ClassFile,
+    tables: &Tables,
+    at: usize,
+) -> Result<Option<Cause>, AllocError>
+    requires made { AreTables world.now (view_class class.now) tables.now }
     requires within { at < length class.now.methods }
-    ensures there { slice_get (view_class class.now).methods at ≡ Some (view_method result.now) }
+    ensures told { IfOk result (IsToldOf world.now (view_class class.now) at) }
 {
-    let methods = class.methods.as_slice();
-    &methods[at]
+    match &class.methods.as_slice()[at].code {
+        Some(_) => Ok(None),
+        None => {
+            let cause = tables.bare_cause(alloc, world, class, at)?;
+            Ok(cause)
+        }
+    }
 }
 
-/// Whether the name at a place stands before it too.
-fn is_repeated(names: &NameTable, at: usize) -> bool
-    requires within { at < length names.now }
-    ensures repeated { IsTrue result ↔ IsRepeated names.now at }
+/// The cause of each method of a class that has no code, if it has one.
+fn method_causes(
+    alloc: Global,
+    world: &World,
+    class: &ClassFile,
+    tables: &Tables,
+) -> Result<Items<Option<Cause>>, AllocError>
+    requires made { AreTables world.now (view_class class.now) tables.now }
+    ensures told { IfOk result (TellsMethods world.now (view_class class.now)) }
 {
-    match names.before(at) {
-        Some(_) => true,
-        None => false,
+    let mut causes = Items::new(alloc);
+    let mut names = BTreeSet::new(alloc);
+    for at in 0..class.methods.len() {
+        let found = method_cause(alloc, world, class, tables, at)?;
+        let cause = share_cause(alloc, &mut names, found)?;
+        causes.push(cause)?;
+    }
+    Ok(causes)
+}
+
+/// An equal cause, if there is one.
+fn copy_field_cause(
+    alloc: Global,
+    cause: &Option<FieldCause>,
+) -> Result<Option<FieldCause>, AllocError>
+    ensures equal { IfOk result (λ copy. copy ≡ cause.now) }
+{
+    match cause {
+        None => Ok(None),
+        Some(cause) => Ok(Some(cause.copy(alloc)?)),
+    }
+}
+
+/// An equal cause, if there is one.
+fn copy_cause(alloc: Global, cause: &Option<Cause>) -> Result<Option<Cause>, AllocError>
+    ensures equal { IfOk result (λ copy. copy ≡ cause.now) }
+{
+    match cause {
+        None => Ok(None),
+        Some(cause) => Ok(Some(cause.copy(alloc)?)),
     }
 }
 
 impl Causes {
-    /// What tells the causes of a class and of its members.
+    /// The causes of a class and of its members.
     pub fn new(alloc: Global, world: &World, class: &ClassFile) -> Result<Causes, AllocError>
         ensures made { IfOk result (AreCauses world.now (view_class class.now)) }
     {
-        let scope = Scope::new(alloc, world.headers(), world.members(), &class.this_class)?;
-        let shared = common_names(alloc, &class.this_class)?;
-        let common = least_unsaid(alloc, world, &scope, shared.as_slice())?;
-        let fields = names_of_fields(alloc, class.fields.as_slice())?;
-        let methods = table_of(alloc, class.methods.as_slice())?;
+        let tables = Tables::new(alloc, world, class)?;
+        let fields = field_causes(alloc, world, class, &tables)?;
+        let methods = method_causes(alloc, world, class, &tables)?;
         Ok(Causes {
-            scope,
+            tables,
             fields,
             methods,
-            common,
         })
     }
 
@@ -128,27 +179,7 @@ impl Causes {
     pub fn has_method(&self, name: &Units) -> bool
         ensures has { (world : WorldOf) (class : ClassOf) → AreCauses world class self.now → IsTrue result ↔ Contains (method_names class.methods) name.now }
     {
-        is_among(&self.methods, name)
-    }
-
-    /// The first of a class's name and those of its parents that its text can't say.
-    fn unsaid_in_class(
-        &self,
-        alloc: Global,
-        world: &World,
-        class: &ClassFile,
-    ) -> Result<Option<Units>, AllocError>
-        requires made { AreCauses world.now (view_class class.now) self.now }
-        ensures first { IfOk result (λ found. MatchOption found ((name : Name) → ¬ IsFirstUnsaid world.now (view_class class.now) name) (IsFirstUnsaid world.now (view_class class.now))) }
-    {
-        let own = self.scope.is_unobscured(alloc, &class.this_class)?;
-        if own {
-            let parent = first_unsaid_parent(alloc, world, &self.scope, class)?;
-            Ok(parent)
-        } else {
-            let units = units_of(alloc, &class.this_class)?;
-            Ok(Some(units))
-        }
+        self.tables.has_method(name)
     }
 
     /// The first cause for which the class isn't printed.
@@ -161,92 +192,24 @@ impl Causes {
         requires made { AreCauses world.now (view_class class.now) self.now }
         ensures first { IfOk result (IsClassCause world.now (view_class class.now)) }
     {
-        if is_enum(class.flags) {
-            return Ok(Some(ClassCause::Enum));
-        }
-        if is_annotation(class.flags) {
-            return Ok(Some(ClassCause::Annotation));
-        }
-        if describes_package(&class.this_class) {
-            return Ok(Some(ClassCause::Package));
-        }
-        if is_root(class) {
-            return Ok(Some(ClassCause::Root));
-        }
-        if let Some(name) = self.unsaid_in_class(alloc, world, class)? {
-            return Ok(Some(ClassCause::Name(name)));
-        }
-        let unset = unset_name(alloc, class)?;
-        match unset {
-            Some(name) => Ok(Some(ClassCause::Constant(name))),
-            None => Ok(None),
-        }
-    }
-
-    /// The first of a field's own name and its type's that can't be said.
-    fn unsaid_in_field(
-        &self,
-        alloc: Global,
-        world: &World,
-        class: &ClassFile,
-        field: &Field,
-    ) -> Result<Option<Units>, AllocError>
-        requires made { AreCauses world.now (view_class class.now) self.now }
-        ensures first { IfOk result (λ found. MatchOption found ((name : Name) → ¬ IsUnsaidInField world.now (view_class class.now) (view_field field.now) name) (IsUnsaidInField world.now (view_class class.now) (view_field field.now))) }
-    {
-        if !is_identifier(&field.name) {
-            return Ok(Some(field.name.copy(alloc)?));
-        }
-        match class_of(&field.descriptor) {
-            Some(name) => {
-                let found = unsaid_name(alloc, world, &self.scope, name)?;
-                Ok(found)
-            }
-            None => Ok(None),
-        }
+        let cause = self.tables.class_cause(alloc, world, class)?;
+        Ok(cause)
     }
 
     /// The first cause for which the field at a place isn't printed.
     pub fn field_cause(
         &self,
         alloc: Global,
-        world: &World,
-        class: &ClassFile,
+        _world: &World,
+        _class: &ClassFile,
         at: usize,
     ) -> Result<Option<FieldCause>, AllocError>
-        requires made { AreCauses world.now (view_class class.now) self.now }
-        requires within { at < length class.now.fields }
-        ensures first { IfOk result (IsFieldCause world.now (view_class class.now) at) }
+        requires made { AreCauses _world.now (view_class _class.now) self.now }
+        requires within { at < length _class.now.fields }
+        ensures first { IfOk result (IsFieldCause _world.now (view_class _class.now) at) }
     {
-        let field = field_at(class, at);
-        if let Some(name) = self.unsaid_in_field(alloc, world, class, field)? {
-            return Ok(Some(FieldCause::Name(name)));
-        }
-        if is_repeated(&self.fields, at) {
-            return Ok(Some(FieldCause::Signature));
-        }
-        if has_wrong_constant(field) {
-            return Ok(Some(FieldCause::Constant));
-        }
-        Ok(None)
-    }
-
-    /// The least name that the text of a method can't say among its own and those of the classes that it may rest on.
-    fn unsaid_in_method(
-        &self,
-        alloc: Global,
-        world: &World,
-        class: &ClassFile,
-        method: &Method,
-    ) -> Result<Option<Units>, AllocError>
-        requires made { AreCauses world.now (view_class class.now) self.now }
-        ensures least { IfOk result (IsLeastIfAny (IsUnsaid world.now (view_class class.now) (view_method method.now))) }
-    {
-        let head = head_names(alloc, method)?;
-        let own = least_unsaid(alloc, world, &self.scope, head.as_slice())?;
-        let common = copy_units(alloc, &self.common)?;
-        let name = unsaid_method_name(alloc, &method.name)?;
-        Ok(lesser(name, lesser(common, own)))
+        let cause = copy_field_cause(alloc, &self.fields.as_slice()[at])?;
+        Ok(cause)
     }
 
     /// The first cause for which the method at a place, which has no code, isn't printed.
@@ -263,13 +226,15 @@ impl Causes {
         // No name of such a method is unsaid, where it has no cause.
         ensures said { IfOk result (λ found. found ≡ None → (name : Name) → ¬ IsSomeAnd (slice_get (view_class class.now).methods at) (λ method. IsUnsaid world.now (view_class class.now) method name)) }
     {
-        let method = method_at(class, at);
-        if let Some(name) = self.unsaid_in_method(alloc, world, class, method)? {
-            return Ok(Some(Cause::Name(name)));
+        match &class.methods.as_slice()[at].code {
+            Some(_) => {
+                let cause = self.tables.bare_cause(alloc, world, class, at)?;
+                Ok(cause)
+            }
+            None => {
+                let cause = copy_cause(alloc, &self.methods.as_slice()[at])?;
+                Ok(cause)
+            }
         }
-        if breaks_signature(class, &self.methods, at, method) {
-            return Ok(Some(Cause::Signature));
-        }
-        Ok(None)
     }
 }

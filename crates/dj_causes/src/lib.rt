@@ -7,6 +7,7 @@ mod cause;
 mod causes;
 mod class_causes;
 mod constants;
+mod tables;
 mod types;
 mod unsaid;
 

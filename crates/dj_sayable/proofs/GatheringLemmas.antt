@@ -1,12 +1,18 @@
 -- How gathered names grow.
-use Rattle.std.proofs.Common.{◌≡◌, ◌≢◌, ◌⊎◌, ◌↔◌, ℕ, ◌+◌, ◌<◌, List, [], ◌∷◌, ◌++◌, Any, Contains, Some, slice_get, length, take, get_or, refl, sym, ap, subst, inl, inr, ◌∙◌, arith}
+use Rattle.std.proofs.Common.{◌≡◌, ◌≢◌, ◌⊎◌, ◌↔◌, ℕ, ◌+◌, ◌<◌, Bool, true, false, cond, not, IsTrue, List, [], ◌∷◌, ◌++◌, Any, Contains, length, take, get_or, refl, sym, ap, subst, inl, inr, ◌∙◌, arith}
 use Rattle.std.proofs.lemmas.List.{take_more, take-append-le, length_push}
 use Rattle.std.proofs.lemmas.List.Elements.{Contains-append_left, Contains-append_right, Contains-append_cases, Contains-push, Contains-push_cases, Contains-get_or}
 use Rattle.std.proofs.lemmas.List.Quantifiers.{Any-push, all_pairs_push}
-use Rattle.std.proofs.lemmas.Option.{slice_get-get_or}
 use Rattle.dj_names.specs.Headers.{Name}
 use Rattle.dj_headers.proofs.PathLemmas.{Any-before, Any-push_cases}
-use Rattle.dj_sayable.specs.Gathering.{Gains, Continues}
+use Rattle.std.specs.Ordering.{nat_cmp}
+use Rattle.std.specs.Cmp.Lexicographic.{slice_cmp}
+use Rattle.std.specs.BTreeMap.{is_at}
+use Rattle.std.specs.BTreeSet.{BTreeSet, contains, Updates}
+use Rattle.std.proofs.lemmas.Bool.{cases_Bool, both_ways}
+use Rattle.std.proofs.lemmas.Map.Lookups.{exact_bytes}
+use Rattle.std.proofs.lemmas.Map.Views.{tells_apart}
+use Rattle.dj_sayable.specs.Gathering.{HasJust, Gains, Continues}
 
 -- ---- what is gained
 
@@ -59,11 +65,51 @@ gains_one names name = record {
   );
 }
 
--- a name without a place is none of the names
-pub not_contained : (table names : List Name) (units name : Name) → table ≡ names → units ≡ name → ((other : ℕ) → other < length table → slice_get table other ≢ Some units) → ¬ Contains names name
-not_contained table names units name same is none has =
-    let at : Contains table units = subst (Contains table) (sym is) (subst (λ (xs : List Name). Contains xs name) (sym same) has) in
-    none at.0 at.1 (slice_get-get_or table at.0 units at.1 ∙ ap Some at.2)
+-- ---- a set beside names
+
+module _ (old new : BTreeSet Name) (names : List Name) (key : Name) (just : HasJust old names)
+    (updates : Updates (slice_cmp nat_cmp) old new key true) where
+  new_has : (name : Name) → Contains names name ⊎ (key ≡ name) → IsTrue (contains (slice_cmp nat_cmp) new name)
+  new_has name either = elim either [
+    | inl had ↦ updates.0 name ∙ kept (is_at (slice_cmp nat_cmp key) name) ((just.each name).1 had)
+    | inr same ↦ subst (λ (n : Name). contains (slice_cmp nat_cmp) new n ≡ true) same updates.1
+  ]
+    where
+      kept : (here : Bool) → contains (slice_cmp nat_cmp) old name ≡ true → cond here true (contains (slice_cmp nat_cmp) old name) ≡ true
+      kept true had = refl
+      kept false had = had
+
+  old_had : (name : Name) → IsTrue (contains (slice_cmp nat_cmp) new name) → Contains names name ⊎ (key ≡ name)
+  old_had name has = elim (cases_Bool (is_at (slice_cmp nat_cmp key) name)) [
+    | inl here ↦ inr (tells_apart exact_bytes key name here)
+    | inr elsewhere ↦ inl ((just.each name).0 (sym (ap (λ here. cond here true (contains (slice_cmp nat_cmp) old name)) elsewhere) ∙ sym (updates.0 name) ∙ has))
+  ]
+
+  -- the set that had the name
+  pub just_known : Contains names key → HasJust new names
+  just_known had = record {
+    each = λ name. (
+      λ has. elim (old_had name has) [ inl there ↦ there | inr same ↦ subst (Contains names) same had ],
+      λ there. new_has name (inl there),
+    );
+  }
+
+  -- the set that has one more
+  pub just_more : (name : Name) → name ≡ key → HasJust new (names ++ name ∷ [])
+  just_more name is = record {
+    each = λ other. (
+      λ has. elim (old_had other has) [
+        | inl there ↦ Contains-append_left names (name ∷ []) other there
+        | inr same ↦ subst (Contains (names ++ name ∷ [])) (is ∙ same) (Contains-push names name)
+      ],
+      λ there. new_has other (elim (Contains-push_cases names name other there) [ inl before ↦ inl before | inr same ↦ inr (sym is ∙ same) ]),
+    );
+  }
+
+-- a name that was put into the set first is none of the names
+pub not_yet : (known : BTreeSet Name) (names : List Name) (key name : Name) (first : Bool) → HasJust known names → name ≡ key → first ≡ not (contains (slice_cmp nat_cmp) known key) → IsTrue first → ¬ Contains names name
+not_yet known names key name first just is added holds there =
+    both_ways (not (contains (slice_cmp nat_cmp) known key)) (ap not ((just.each key).1 (subst (Contains names) is there))) (sym added ∙ holds)
 
 -- ---- one more item of a list
 

@@ -1,9 +1,16 @@
 -- What the functions that gather names promise each other.
-use Rattle.std.specs.Prelude.{◌≡◌, ◌≢◌, ◌⊎◌, ◌↔◌, ℕ, ◌≤◌, List, [], ◌∷◌, ◌++◌, length, take, Contains, AllPairs}
+use Rattle.std.specs.Prelude.{◌≡◌, ◌≢◌, ◌⊎◌, ◌↔◌, ℕ, ◌≤◌, IsTrue, List, [], ◌∷◌, ◌++◌, length, take, Contains, AllPairs}
 use Rattle.std.specs.Option.{option_to_list}
+use Rattle.std.specs.Ordering.{nat_cmp}
+use Rattle.std.specs.Cmp.Lexicographic.{slice_cmp}
+use Rattle.std.specs.BTreeSet.{BTreeSet, contains}
 use Rattle.dj_names.specs.declared.header.Header.{Header}
 use Rattle.dj_names.specs.Headers.{Name, HasParent}
 use Rattle.dj_sayable.specs.Above.{IsAtOrAbove}
+
+-- the set has just these names
+pub record HasJust (known : BTreeSet Name) (names : List Name) : Type 0 where
+  pub each : (name : Name) → IsTrue (contains (slice_cmp nat_cmp) known name) ↔ Contains names name
 
 -- the new names are the old ones and those of which this holds
 pub record Gains (old new : List Name) (P : Name → Type 0) : Type 0 where

@@ -3,44 +3,42 @@
 ghost use Rattle.std.specs.Prelude.{◌≡◌, ◌↔◌, List, Some, Contains, OnOk, IfOk};
 ghost use Rattle.dj_names.specs.Headers.{Name, HasParent};
 ghost use Rattle.dj_sayable.specs.Above.{IsAtOrAbove};
-ghost use Rattle.dj_sayable.specs.Gathering.{Gains, Continues};
+ghost use Rattle.dj_sayable.specs.Gathering.{HasJust, Gains, Continues};
 
 use dj_headers::Headers;
-use dj_members::NameTable;
-use dj_names::{ClassName, Items, Units};
+use dj_names::{ClassName, Items};
 use std::alloc::{AllocError, Global};
+use std::collections::BTreeSet;
 
-/// Names in order, no two equal, with a table in which they are looked up.
+/// Names in order, no two equal, with the set of them.
 #[derive(Drop)]
 struct Found {
     names: Items<ClassName>,
-    table: NameTable,
+    known: BTreeSet<ClassName>,
 }
 
 impl Found {
     /// Puts a name behind the others, unless it is among them.
     fn add(&mut self, alloc: Global, name: &ClassName) -> Result<(), AllocError>
-        requires paired { self.old.table ≡ self.old.names }
-        ensures paired { OnOk result (self.new.table ≡ self.new.names) }
+        requires paired { HasJust self.old.known self.old.names }
+        ensures paired { OnOk result (HasJust self.new.known self.new.names) }
         ensures gains { OnOk result (Gains self.old.names self.new.names (λ other. name.now ≡ other)) }
         ensures continues { OnOk result (Continues self.old.names self.new.names) }
     {
-        let units = Units::from_slice(alloc, name.as_slice())?;
-        match self.table.last(&units) {
-            Some(_) => Ok(()),
-            None => {
-                let copy = name.copy(alloc)?;
-                self.table.push(&units)?;
-                self.names.push(copy)?;
-                Ok(())
-            }
+        let key = name.copy(alloc)?;
+        let copy = name.copy(alloc)?;
+        let first = self.known.insert(key)?;
+        if !first {
+            return Ok(());
         }
+        self.names.push(copy)?;
+        Ok(())
     }
 
     /// Puts those of these names behind the others that aren't among them.
     fn add_all(&mut self, alloc: Global, names: &[ClassName]) -> Result<(), AllocError>
-        requires paired { self.old.table ≡ self.old.names }
-        ensures paired { OnOk result (self.new.table ≡ self.new.names) }
+        requires paired { HasJust self.old.known self.old.names }
+        ensures paired { OnOk result (HasJust self.new.known self.new.names) }
         ensures gains { OnOk result (Gains self.old.names self.new.names (Contains names.now)) }
         ensures continues { OnOk result (Continues self.old.names self.new.names) }
     {
@@ -56,8 +54,8 @@ impl Found {
         alloc: Global,
         superclass: &Option<ClassName>,
     ) -> Result<(), AllocError>
-        requires paired { self.old.table ≡ self.old.names }
-        ensures paired { OnOk result (self.new.table ≡ self.new.names) }
+        requires paired { HasJust self.old.known self.old.names }
+        ensures paired { OnOk result (HasJust self.new.known self.new.names) }
         ensures gains { OnOk result (Gains self.old.names self.new.names (λ other. superclass.now ≡ Some other)) }
         ensures continues { OnOk result (Continues self.old.names self.new.names) }
     {
@@ -78,8 +76,8 @@ impl Found {
         headers: &Headers,
         class: &ClassName,
     ) -> Result<(), AllocError>
-        requires paired { self.old.table ≡ self.old.names }
-        ensures paired { OnOk result (self.new.table ≡ self.new.names) }
+        requires paired { HasJust self.old.known self.old.names }
+        ensures paired { OnOk result (HasJust self.new.known self.new.names) }
         ensures gains { OnOk result (Gains self.old.names self.new.names (HasParent headers.now class.now)) }
         ensures continues { OnOk result (Continues self.old.names self.new.names) }
     {
@@ -105,7 +103,7 @@ pub fn all_above(
 {
     let mut found = Found {
         names: Items::new(alloc),
-        table: NameTable::new(alloc),
+        known: BTreeSet::new(alloc),
     };
     found.add_all(alloc, classes)?;
     let mut at = 0;

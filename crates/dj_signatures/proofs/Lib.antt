@@ -1,2 +1,6 @@
-pub mod SignatureLemmas
+pub mod SpelledLemmas
+pub mod PuttingLemmas
+pub mod KeyLemmas
+pub mod StandingLemmas
+pub mod RivalLemmas
 pub mod Examples

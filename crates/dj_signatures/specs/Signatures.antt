@@ -1,5 +1,5 @@
 -- Which methods of a class can't stand in one text with its others, by name, parameters and flags (JVMS 4.6; JLS 8.4.2, 8.7, 8.8, 9.4).
-use Rattle.std.specs.Prelude.{◌≡◌, ◌≢◌, ◌⊎◌, ℕ, List, [], map, None, Some, IsTrue, IsBitSet, slice_get}
+use Rattle.std.specs.Prelude.{◌≡◌, ◌≢◌, ◌⊎◌, ◌↔◌, ℕ, Bool, List, [], length, map, None, Some, IsTrue, IsBitSet, slice_get}
 use Rattle.dj_names.specs.Headers.{Name}
 use Rattle.dj_names.specs.Types.{Method, parameters_of, result_of}
 use Rattle.dj_names.specs.MethodNames.{is_constructor, is_initialiser}
@@ -43,6 +43,15 @@ pub record IsUncounted (methods : List MethodOf) (at : ℕ) (method : MethodOf) 
   pub other : ℕ
   pub elsewhere : other ≢ at
   pub counts : Counts methods method other
+
+-- the method at a place can't stand beside another of its name
+abbrev pub HasRival : List MethodOf → ℕ → MethodOf → Type 0
+HasRival methods at method = HasTwin methods at method ⊎ IsUncounted methods at method
+
+-- whether each of the methods has a rival, in order
+pub record TellsRivals (methods : List MethodOf) (rivals : List Bool) : Type 0 where
+  pub size : length rivals ≡ length methods
+  pub each : (at : ℕ) (method : MethodOf) (rival : Bool) → slice_get methods at ≡ Some method → slice_get rivals at ≡ Some rival → IsTrue rival ↔ HasRival methods at method
 
 -- what a constructor mustn't be
 abbrev pub BreaksConstructor : MethodOf → Type 0

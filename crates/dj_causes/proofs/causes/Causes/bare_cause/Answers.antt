@@ -1,20 +1,14 @@
-use Rattle.dj_class.specs.Views.{view_class, view_method}
-use Rattle.dj_signatures.specs.Signatures.{BreaksSignature}
-use Rattle.dj_causes.proofs.ClassCauseLemmas.{fails}
-use Rattle.dj_causes.proofs.BareCauseLemmas.{least_name, least_signature, none_of_method, none_unsaid}
+use Rattle.std.proofs.Common.{ap, ◌∙◌}
+use Rattle.dj_class.specs.declared.method.Method.{Method}
+use Rattle.dj_causes.proofs.ToldLemmas.{first_told, said_told}
 use Rattle.dj_causes.proofs.causes.Causes.bare_cause.Goals as goal
 
-pub returns-in-Some-clause-first : goal.returns-in-Some-clause-first
-returns-in-Some-clause-first c = least_name c.args.world.now (view_class c.args.class.now) c.args.at (view_method c.method_at-method.result.now) c.method_at-method.ensures.there c.in-Some.name (rw c.in-Some.is at c.in_ok-name.ensures.least)
+pub returns-in_ok-cause-in-None-clause-first : goal.returns-in_ok-cause-in-None-clause-first
+returns-in_ok-cause-in-None-clause-first c =
+    first_told c.args.world.now c.args.class.now c.args.self.now.methods c.args.at c.index-as_slice-at.result c.index-as_slice-at-in-None.result c.in_ok-cause-in-None.cause c.requires.made.methods c.requires.within
+    (rw c.as_slice.ensures at c.index-as_slice-at.is) (ap (λ (m : Method). m.code) c.index-as_slice-at.is ∙ c.in-None.is) (rw c.as_slice-in-None.ensures at c.index-as_slice-at-in-None.is) c.in_ok-cause-in-None.ensures.equal
 
-pub returns-then-breaks_signature-clause-first : goal.returns-then-breaks_signature-clause-first
-returns-then-breaks_signature-clause-first c =
-    least_signature c.args.world.now (view_class c.args.class.now) c.args.at (view_method c.method_at-method.result.now) c.method_at-method.ensures.there (rw c.in_default.is at c.in_ok-name.ensures.least) (c.breaks_signature.ensures.breaks.0 c.if-breaks_signature.true)
-
-pub returns-clause-first : goal.returns-clause-first
-returns-clause-first c =
-    none_of_method c.args.world.now (view_class c.args.class.now) c.args.at (view_method c.method_at-method.result.now) c.method_at-method.ensures.there (rw c.in_default.is at c.in_ok-name.ensures.least)
-    (fails c.breaks_signature.result (BreaksSignature (view_class c.args.class.now) c.args.at (view_method c.method_at-method.result.now)) c.breaks_signature.ensures.breaks c.if-breaks_signature.false)
-
-pub returns-clause-said : goal.returns-clause-said
-returns-clause-said c = λ none. none_unsaid c.args.world.now (view_class c.args.class.now) c.args.at (view_method c.method_at-method.result.now) c.method_at-method.ensures.there (rw c.in_default.is at c.in_ok-name.ensures.least)
+pub returns-in_ok-cause-in-None-clause-said : goal.returns-in_ok-cause-in-None-clause-said
+returns-in_ok-cause-in-None-clause-said c =
+    said_told c.args.world.now c.args.class.now c.args.self.now.methods c.args.at c.index-as_slice-at.result c.index-as_slice-at-in-None.result c.in_ok-cause-in-None.cause c.requires.made.methods c.requires.within
+    (rw c.as_slice.ensures at c.index-as_slice-at.is) (ap (λ (m : Method). m.code) c.index-as_slice-at.is ∙ c.in-None.is) (rw c.as_slice-in-None.ensures at c.index-as_slice-at-in-None.is) c.in_ok-cause-in-None.ensures.equal

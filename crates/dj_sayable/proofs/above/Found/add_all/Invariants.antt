@@ -1,10 +1,10 @@
-use Rattle.std.proofs.Common.{◌≡◌, Contains, take}
-use Rattle.dj_sayable.specs.Gathering.{Gains, Continues}
+use Rattle.std.proofs.Common.{Contains, take}
+use Rattle.dj_sayable.specs.Gathering.{HasJust, Gains, Continues}
 use Rattle.dj_sayable.proofs.above.Found.add_all.Given as goal
 
 abbrev pub invariant-loop-name : goal.invariant-loop-name
 invariant-loop-name l = record {
-  paired : l.self.table ≡ l.self.names;
+  paired : HasJust l.self.known l.self.names;
   gains : Gains l.initial.self.names l.self.names (Contains (take l.name-index l.names));
   continues : Continues l.initial.self.names l.self.names;
 }
