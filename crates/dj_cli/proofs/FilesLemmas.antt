@@ -6,11 +6,12 @@ use Rattle.dj_world.specs.Worlds.{WorldOf}
 use Rattle.dj_load.specs.declared.reading.Found.{Found}
 use Rattle.dj_load.specs.HeldFiles.{FileIs, IsClass, IsClash, IsBroken, IsFile, AreFiles}
 use Rattle.dj_load.specs.Loading.{all_found, found_of}
+use Rattle.dj_load.proofs.ReadingLemmas.{few_methods}
 use Rattle.dj_from_file.proofs.FromFile.{from_file}
 use Rattle.dj_cli.specs.Pieces.{IsOfFile}
 
 of_file : (oldest : ℕ) (old new : WorldOf) (bytes : List ℕ) (file : FileIs) → IsFile oldest old bytes file new → IsOfFile file
-of_file oldest old new bytes (IsClass class) is = from_file bytes oldest (view_class class) is.0
+of_file oldest old new bytes (IsClass class) is = record { of_file = from_file bytes oldest (view_class class) is.0; few = few_methods oldest bytes class is.0 }
 of_file oldest old new bytes (IsClash kind) is = tt
 of_file oldest old new bytes (IsBroken kind offset) is = tt
 

@@ -5,3 +5,4 @@ pub mod MethodsLemmas
 pub mod PiecesLemmas
 pub mod TellingLemmas
 pub mod RunLemmas
+pub mod OrderLemmas

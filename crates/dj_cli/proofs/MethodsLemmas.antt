@@ -1,7 +1,9 @@
 -- What is found of one method more.
-use Rattle.std.proofs.Common.{◌≡◌, ℕ, Bool, List, [], ◌∷◌, ◌++◌, Option, Some, None, length, refl, suc, sym, ap, ◌∙◌, subst, append_assoc, append-nil, arith}
-use Rattle.std.specs.Prelude.{IfSome}
-use Rattle.std.proofs.lemmas.List.{length-map, map_push}
+use Rattle.std.proofs.Common.{◌≡◌, ℕ, ◌+◌, ◌≤◌, Bool, not, List, [], ◌∷◌, ◌++◌, Option, Some, None, length, refl, suc, sym, ap, ◌∙◌, subst, append_assoc, append-nil, arith}
+use Rattle.std.specs.Prelude.{IfSome, filter}
+use Rattle.std.proofs.lemmas.List.{length-append, length-map, map_push}
+use Rattle.std.proofs.lemmas.List.Elements.{filter-append}
+use Rattle.std.proofs.lemmas.List.Filters.{length-filter_both}
 use Rattle.dj_class.specs.Described.{ClassOf, MethodOf}
 use Rattle.dj_world.specs.Worlds.{WorldOf}
 use Rattle.dj_syntax.specs.Trees.{Exp, Body}
@@ -19,7 +21,7 @@ use Rattle.dj_straight.specs.StraightMethod.{IsStraightMethod, IsBodyOf}
 use Rattle.dj_straight_shows.proofs.StraightShows.{straight_methods_show}
 use Rattle.dj_verify.specs.declared.rule.Rule.{Rule}
 use Rattle.dj_report.specs.Report.{shown_method, bad_tail, unverified_tail, not_yet_tail, refused_method_tail}
-use Rattle.dj_cli.specs.Output.{Verdict, Prints, Bare, Refused, Bad, Unverified, NotYet, PrintsMethod, IsBareMethod, IsRefusedMethod, IsBadMethod, IsUnverifiedMethod, IsNotYetMethod, IsVerdict, AreVerdicts, body_of, method_line, method_lines}
+use Rattle.dj_cli.specs.Output.{Verdict, Prints, Bare, Refused, Bad, Unverified, NotYet, PrintsMethod, IsBareMethod, IsRefusedMethod, IsBadMethod, IsUnverifiedMethod, IsNotYetMethod, IsVerdict, AreVerdicts, body_of, is_printed, method_line, method_lines, printed_among, refused_among}
 use Rattle.dj_cli.specs.Methods.{AreJudged, IsLineOf, IsPrintable, IsPrintOf}
 
 -- ---- bodies
@@ -81,6 +83,11 @@ module _ (world : WorldOf) (class : ClassOf) where
   verdicts-number before (other ∷ methods) [] each = absurd each
   verdicts-number before (first ∷ methods) (one ∷ verdicts) each = ap suc (verdicts-number (before ++ first ∷ []) methods verdicts each.1)
 
+  -- the counts, with a verdict more
+  refused-push : (verdicts : List Verdict) (verdict : Verdict) → refused_among (verdicts ++ verdict ∷ []) ≡ refused_among verdicts + refused_among (verdict ∷ [])
+  refused-push verdicts verdict =
+      ap length (filter-append (λ one. not (is_printed one)) verdicts (verdict ∷ [])) ∙ length-append (filter (λ one. not (is_printed one)) verdicts) (filter (λ one. not (is_printed one)) (verdict ∷ []))
+
   -- the lines, with a verdict more
   lines-more : (before methods : List MethodOf) (verdicts : List Verdict) (method : MethodOf) (verdict : Verdict) → AreVerdicts world class before methods verdicts
       → method_lines class (methods ++ method ∷ []) (verdicts ++ verdict ∷ []) ≡ method_lines class methods verdicts ++ method_line class method verdict
@@ -104,18 +111,27 @@ module _ (world : WorldOf) (class : ClassOf) where
   -- ---- methods judged
 
   -- as many bodies as methods
-  pub judged_number : (methods : List MethodOf) (bodies : List (Option Body)) (lines : List ℕ) → AreJudged world class methods bodies lines → length methods ≡ length bodies
-  judged_number methods bodies lines before =
+  pub judged_number : (methods : List MethodOf) (bodies : List (Option Body)) (lines : List ℕ) (refused : ℕ) → AreJudged world class methods bodies lines refused → length methods ≡ length bodies
+  judged_number methods bodies lines refused before =
       verdicts-number [] methods before.verdicts before.judged ∙ sym (length-map before.verdicts body_of) ∙ ap length (sym before.bodies_are)
 
+  -- each method is printed or refused
+  pub counted : (methods : List MethodOf) (verdicts : List Verdict) → AreVerdicts world class [] methods verdicts → printed_among verdicts + refused_among verdicts ≡ length methods
+  counted methods verdicts each =
+      length-filter_both is_printed (λ verdict. not (is_printed verdict)) (λ verdict. refl) verdicts ∙ sym (verdicts-number [] methods verdicts each)
+
+  -- no more are refused than there are
+  pub few_refused : (methods : List MethodOf) (bodies : List (Option Body)) (lines : List ℕ) (refused : ℕ) → AreJudged world class methods bodies lines refused → refused ≤ length methods
+  few_refused methods bodies lines refused before = omega (arith, before.refused_is, counted methods before.verdicts before.judged)
+
   -- no method
-  pub judged_none : AreJudged world class [] [] []
-  judged_none = record { verdicts = []; judged = tt; bodies_are = refl; lines_are = refl; fit = tt }
+  pub judged_none : AreJudged world class [] [] [] 0
+  judged_none = record { verdicts = []; judged = tt; bodies_are = refl; lines_are = refl; refused_is = refl; fit = tt }
 
   -- and one with this verdict
-  judged_more : (methods : List MethodOf) (method : MethodOf) (bodies : List (Option Body)) (lines : List ℕ) (verdict : Verdict) → AreJudged world class methods bodies lines → IsVerdict world class methods method verdict
-      → IfSome (body_of verdict) (FitsBody (is_interface class.flags) class.this_class method) → AreJudged world class (methods ++ method ∷ []) (bodies ++ body_of verdict ∷ []) (lines ++ method_line class method verdict)
-  judged_more methods method bodies lines verdict before is_verdict fits =
+  judged_more : (methods : List MethodOf) (method : MethodOf) (bodies : List (Option Body)) (lines : List ℕ) (refused : ℕ) (verdict : Verdict) → AreJudged world class methods bodies lines refused → IsVerdict world class methods method verdict
+      → IfSome (body_of verdict) (FitsBody (is_interface class.flags) class.this_class method) → AreJudged world class (methods ++ method ∷ []) (bodies ++ body_of verdict ∷ []) (lines ++ method_line class method verdict) (refused + refused_among (verdict ∷ []))
+  judged_more methods method bodies lines refused verdict before is_verdict fits =
       let number : length methods ≡ length bodies =
       verdicts-number [] methods before.verdicts before.judged ∙ sym (length-map before.verdicts body_of) ∙ ap length (sym before.bodies_are) in
       record {
@@ -123,40 +139,50 @@ module _ (world : WorldOf) (class : ClassOf) where
         judged = verdicts-more [] methods before.verdicts method verdict before.judged is_verdict;
         bodies_are = ap (λ these. these ++ body_of verdict ∷ []) before.bodies_are ∙ sym (map_push body_of before.verdicts verdict);
         lines_are = ap (λ these. these ++ method_line class method verdict) before.lines_are ∙ sym (lines-more [] methods before.verdicts method verdict before.judged);
+        refused_is = ap (λ count. count + refused_among (verdict ∷ [])) before.refused_is ∙ sym (refused-push before.verdicts verdict);
         fit = fit-push (is_interface class.flags) class.this_class methods bodies method (body_of verdict) number before.fit fits;
       }
 
-  module _ (methods : List MethodOf) (method : MethodOf) (bodies : List (Option Body)) (lines : List ℕ) (before : AreJudged world class methods bodies lines) where
+  -- no more are refused
+  same-refused : (methods : List MethodOf) (bodies : List (Option Body)) (lines : List ℕ) (refused : ℕ) → AreJudged world class methods bodies lines (refused + 0) → AreJudged world class methods bodies lines refused
+  same-refused methods bodies lines refused judged = subst (AreJudged world class methods bodies lines) (let same : refused + 0 ≡ refused = omega arith in same) judged
+
+  module _ (methods : List MethodOf) (method : MethodOf) (bodies : List (Option Body)) (lines : List ℕ) (refused : ℕ) (before : AreJudged world class methods bodies lines refused) where
     -- and one that is printed with a body
-    pub judged_body : (body : Body) → IsPrintOf world class methods method body → AreJudged world class (methods ++ method ∷ []) (bodies ++ Some body ∷ []) lines
+    pub judged_body : (body : Body) → IsPrintOf world class methods method body → AreJudged world class (methods ++ method ∷ []) (bodies ++ Some body ∷ []) lines refused
     judged_body body print =
         let prints = prints_straight methods method print.exp body print.printable print.of_method in
         let fits = straight_fits class methods method print.exp body print.printable.straight print.printable.fits print.of_method in
-        subst (AreJudged world class (methods ++ method ∷ []) (bodies ++ Some body ∷ [])) (append-nil lines) (judged_more methods method bodies lines (Prints body) before prints fits)
+        same-refused (methods ++ method ∷ []) (bodies ++ Some body ∷ []) lines refused
+        (subst (λ these. AreJudged world class (methods ++ method ∷ []) (bodies ++ Some body ∷ []) these (refused + 0)) (append-nil lines) (judged_more methods method bodies lines refused (Prints body) before prints fits))
 
     -- and one that is printed without
-    pub judged_bare : IsBareMethod world class (length methods) method → AreJudged world class (methods ++ method ∷ []) (bodies ++ None ∷ []) lines
+    pub judged_bare : IsBareMethod world class (length methods) method → AreJudged world class (methods ++ method ∷ []) (bodies ++ None ∷ []) lines refused
     judged_bare bare =
-        subst (AreJudged world class (methods ++ method ∷ []) (bodies ++ None ∷ [])) (append-nil lines) (judged_more methods method bodies lines Bare before bare tt)
+        same-refused (methods ++ method ∷ []) (bodies ++ None ∷ []) lines refused
+        (subst (λ these. AreJudged world class (methods ++ method ∷ []) (bodies ++ None ∷ []) these (refused + 0)) (append-nil lines) (judged_more methods method bodies lines refused Bare before bare tt))
 
     -- and one that isn't printed
-    pub judged_line : (tail : List ℕ) → IsLineOf world class methods method tail → AreJudged world class (methods ++ method ∷ []) (bodies ++ None ∷ []) (lines ++ (shown_method class.this_class method.name method.descriptor ++ tail))
+    pub judged_line : (tail : List ℕ) → IsLineOf world class methods method tail → AreJudged world class (methods ++ method ∷ []) (bodies ++ None ∷ []) (lines ++ (shown_method class.this_class method.name method.descriptor ++ tail)) (refused + 1)
     judged_line tail line =
-        subst (λ these. AreJudged world class (methods ++ method ∷ []) (bodies ++ None ∷ []) (lines ++ these)) line.line_is
-        (subst (λ body. AreJudged world class (methods ++ method ∷ []) (bodies ++ body ∷ []) (lines ++ method_line class method line.verdict)) line.no_body
-        (judged_more methods method bodies lines line.verdict before line.is_verdict (subst (λ body. IfSome body (FitsBody (is_interface class.flags) class.this_class method)) (sym line.no_body) tt)))
+        let fits = subst (λ body. IfSome body (FitsBody (is_interface class.flags) class.this_class method)) (sym line.no_body) tt in
+        let judged = judged_more methods method bodies lines refused line.verdict before line.is_verdict fits in
+        let one : refused_among (line.verdict ∷ []) ≡ 1 = rw line.not_printed refl in
+        subst (AreJudged world class (methods ++ method ∷ []) (bodies ++ None ∷ []) (lines ++ (shown_method class.this_class method.name method.descriptor ++ tail))) (ap (λ count. refused + count) one)
+        (subst (λ these. AreJudged world class (methods ++ method ∷ []) (bodies ++ None ∷ []) (lines ++ these) (refused + refused_among (line.verdict ∷ []))) line.line_is
+        (subst (λ body. AreJudged world class (methods ++ method ∷ []) (bodies ++ body ∷ []) (lines ++ method_line class method line.verdict) (refused + refused_among (line.verdict ∷ []))) line.no_body judged))
 
   -- ---- the ends of lines
 
   module _ (before : List MethodOf) (method : MethodOf) (tail : List ℕ) where
     pub refused_line : (cause : Cause) → IsRefusedMethod world class (length before) method cause → tail ≡ refused_method_tail cause → IsLineOf world class before method tail
-    refused_line cause refused is = record { verdict = Refused cause; is_verdict = refused; no_body = refl; line_is = rw is refl }
+    refused_line cause refused is = record { verdict = Refused cause; is_verdict = refused; no_body = refl; not_printed = refl; line_is = rw is refl }
 
     pub bad_line : (kind : BadKind) (pc : ℕ) → IsBadMethod class method kind pc → tail ≡ bad_tail kind pc → IsLineOf world class before method tail
-    bad_line kind pc bad is = record { verdict = Bad kind pc; is_verdict = bad; no_body = refl; line_is = rw is refl }
+    bad_line kind pc bad is = record { verdict = Bad kind pc; is_verdict = bad; no_body = refl; not_printed = refl; line_is = rw is refl }
 
     pub unverified_line : (rule : Rule) (pc : ℕ) → IsUnverifiedMethod world class method rule pc → tail ≡ unverified_tail rule pc → IsLineOf world class before method tail
-    unverified_line rule pc unverified is = record { verdict = Unverified rule pc; is_verdict = unverified; no_body = refl; line_is = rw is refl }
+    unverified_line rule pc unverified is = record { verdict = Unverified rule pc; is_verdict = unverified; no_body = refl; not_printed = refl; line_is = rw is refl }
 
     pub not_yet_line : (pc : ℕ) → IsNotYetMethod world class before method pc → tail ≡ not_yet_tail pc → IsLineOf world class before method tail
-    not_yet_line pc not_yet is = record { verdict = NotYet pc; is_verdict = not_yet; no_body = refl; line_is = rw is refl }
+    not_yet_line pc not_yet is = record { verdict = NotYet pc; is_verdict = not_yet; no_body = refl; not_printed = refl; line_is = rw is refl }

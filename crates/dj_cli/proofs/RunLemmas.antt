@@ -2,7 +2,7 @@
 use Rattle.std.proofs.Common.{refl, ◌++◌, [], append-nil, Some, None, ◌≡◌, ◌∙◌, ap, ℕ, List, length, map, Option, Result, Ok, Err, OnErr, String, sym, subst, inl, inr}
 use Rattle.std.specs.declared.alloc.Global.{Global}
 use Rattle.std.proofs.lemmas.List.{length-map}
-use Rattle.std.specs.Prelude.{⊤}
+use Rattle.std.specs.Prelude.{true, ⊤}
 use Rattle.std.specs.declared.alloc.AllocError.{AllocError}
 use Rattle.dj_words.specs.declared.order.UsageKind.{UsageKind}
 use Rattle.dj_report.specs.declared.status.Status.{Status}
@@ -18,7 +18,8 @@ use Rattle.dj_load.specs.Loads.{AsksFront, asked_with}
 use Rattle.dj_load.proofs.LoadingLemmas.{are_listed, due_behind, paths_by}
 use Rattle.dj_load.specs.HeldFiles.{Files, Finds, MakesWorld, OfDue}
 use Rattle.dj_load.specs.Loading.{AreLoaded, contents_of, finds_of, paths_of}
-use Rattle.dj_cli.specs.Output.{OfFiles}
+use Rattle.dj_making.specs.MadeFiles.{MadeSetting, made_contents, made_names}
+use Rattle.dj_cli.specs.Output.{OfFiles, OfMade, Source, loaded_source}
 use Rattle.dj_cli.specs.Run.{EndsSo}
 
 -- a run that ends with a last line ends with a fault of the report only where the line was cut off
@@ -27,9 +28,9 @@ ends-report ended status put cut R at_status of_cut (inl ends) = subst (λ s. On
 ends-report ended status put cut R at_status of_cut (inr ends) = subst (λ s. OnReportFault (Ok s) R) (sym ends.0) (of_cut ends.1)
 
 -- so much was told of the files of an order, which were loaded and read
-pub of_files : {held : Option Files} {named : List (List ℕ)} {list : Option (List ℕ)} {asked_old asked_new : Option (List (List ℕ))} (order : OrderFiles) (found : FoundFiles) (world : WorldOf) (Told : List (List ℕ) → Finds → WorldOf → Type 0)
+pub of_files : {held : Option Files} {named : List (List ℕ)} {list : Option (List ℕ)} {asked_old asked_new : Option (List (List ℕ))} (order : OrderFiles) (found : FoundFiles) (world : WorldOf) (Told : Source → Finds → WorldOf → Type 0)
     → AreLoaded held named list asked_old asked_new order → option_map string_bytes found.unread ≡ option_map string_bytes order.library.unread → map string_bytes found.paths.items ≡ paths_of order.library
-    → MakesWorld (contents_of order.named.items) (contents_of order.library.contents.items) (finds_of found) world → Told named (finds_of found) world → OfFiles held named list Told
+    → MakesWorld (contents_of order.named.items) (contents_of order.library.contents.items) (finds_of found) world → Told (loaded_source named) (finds_of found) world → OfFiles held named list Told
 of_files order found world Told loaded unread paths makes told = record {
   found = finds_of found;
   world = world;
@@ -44,6 +45,20 @@ of_files order found world Told loaded unread paths makes told = record {
   };
   told = told;
 }
+
+-- so many files were made, and each is what was found
+pub made_setting : {number : ℕ} (files : OrderFiles) (found : FoundFiles) (world : WorldOf) → contents_of files.named.items ≡ made_contents number → files.library.unread ≡ None → paths_of files.library ≡ [] → files.library.contents.items ≡ []
+    → option_map string_bytes found.unread ≡ option_map string_bytes files.library.unread → map string_bytes found.paths.items ≡ paths_of files.library → MakesWorld (contents_of files.named.items) (contents_of files.library.contents.items) (finds_of found) world
+    → MadeSetting number (finds_of found) world
+made_setting files found world named unread paths library same_unread same_paths makes = record {
+  unread = same_unread ∙ ap (option_map string_bytes) unread;
+  paths = same_paths ∙ paths;
+  makes = rw (named, library) at makes;
+}
+
+-- so much was told of them, under their names
+pub of_made : {number : ℕ} {found : Finds} {world : WorldOf} (names : List (List ℕ)) (Told : Source → Finds → WorldOf → Type 0) → names ≡ made_names number → MadeSetting number found world → Told (record { names = names; made = true }) found world → OfMade number Told
+of_made names Told same setting told = record { found = _; world = _; setting = setting; told = rw same at told }
 
 -- as many paths are found as the list has
 pub as_many_paths : (found paths : List (String Global)) → map string_bytes found ≡ map string_bytes paths → length paths ≡ length found

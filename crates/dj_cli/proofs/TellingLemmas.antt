@@ -1,10 +1,11 @@
 -- Pieces told one after another, and where telling them stops.
 use Rattle.std.proofs.Common.{arith, ◌≡◌, ◌≢◌, ℕ, ◌+◌, Bool, true, false, not, ◌==◌, ◌||◌, List, [], ◌∷◌, ◌++◌, length, take, Option, Some, Ok, Err, refl, sym, ap, ◌∙◌, subst, append_assoc, append-nil, inl, inr}
-use Rattle.std.specs.Prelude.{◌<◌, get_or, map, MatchBool, slice_get}
+use Rattle.std.specs.Prelude.{◌<◌, ◌^◌, get_or, if◌then◌else◌, map, MatchBool, slice_get}
 use Rattle.std.specs.Option.{option_map}
 use Rattle.std.proofs.lemmas.Option.{slice_get-map, slice_get-get_or}
 use Rattle.std.specs.Io.KnownBytes.{append_known}
-use Rattle.std.proofs.lemmas.List.{flat_map_more, length_push, nil_from_length}
+use Rattle.std.proofs.lemmas.List.{flat_map_more, length-map, length_push, nil_from_length}
+use Rattle.std.proofs.lemmas.List.Sums.{sum_by_push}
 use Rattle.std.proofs.lemmas.Bool.Decides.{eqb_tells}
 use Rattle.dj_outer.specs.declared.files.Failed.{Failed}
 use Rattle.dj_outer.specs.Sink.{Puts}
@@ -18,14 +19,20 @@ use Rattle.dj_causes.specs.declared.cause.ClassCause.TheVariants as cause
 use Rattle.dj_report.specs.Report.{RefusedClass, line_text}
 use Rattle.dj_cli.specs.declared.telling.TellStop.{TellStop}
 use Rattle.dj_cli.specs.declared.telling.TellStop.TheVariants.{Text, Report, Memory}
+use Rattle.dj_class.specs.declared.class.ClassFile.{ClassFile}
 use Rattle.dj_class.specs.Described.{ClassOf}
+use Rattle.dj_class.specs.Views.{view_class, view_method}
 use Rattle.dj_causes.specs.ClassCauses.{IsClassCause}
-use Rattle.dj_cli.specs.Pieces.{refused_piece}
-use Rattle.dj_cli.specs.Output.{Piece, PrintsClass, IsClassPiece, prints, refuses, IsFilePiece, IsLastPiece, IsNext, library_line, library_lines, none, more, text_of, lines_of, Grew, ToldFirst, ToldAll, ToldSome, ToldFront, Cut, InText, InLines}
-use Rattle.dj_load.specs.HeldFiles.{FileIs, Finds}
+use Rattle.dj_cli.specs.declared.last.LastPiece.{LastPiece}
+use Rattle.dj_cli.specs.declared.tally.Tally.{Tally}
+use Rattle.dj_cli.specs.Pieces.{IsOfFile, end_piece, refused_piece}
+use Rattle.dj_cli.specs.Output.{Piece, PrintsClass, IsClassPiece, prints, refuses, IsFilePiece, IsNext, Source, last_lines, library_line, library_lines, none, more, text_of, lines_of, printed_of, Grew, ToldFirst, ToldAll, ToldSome, ToldFront, Cut, InText, InLines}
+use Rattle.dj_load.specs.HeldFiles.{FileIs, Finds, IsClass, IsClash, IsBroken}
+use Rattle.dj_making.specs.MadeFiles.{summary_text}
 use Rattle.dj_world.specs.Worlds.{WorldOf}
 use Rattle.dj_cli.specs.Lines.{subject_bytes, line_bytes, lines_bytes}
-use Rattle.dj_cli.specs.Telling.{StoppedTelling, TellsPiece, CutsPiece, StopsPiece}
+use Rattle.dj_cli.specs.Telling.{StoppedTelling, Tallies, TellsPiece, CutsPiece, StopsPiece}
+use Rattle.dj_cli.proofs.MethodsLemmas.{counted}
 
 -- the item at a place, seen by a function
 pub name_at : {X Y : Type 0} (f : X → Y) (xs : List X) (i : ℕ) (x : X) → i < length xs → x ≡ get_or xs i x → slice_get (map f xs) i ≡ Some (f x)
@@ -42,11 +49,6 @@ refused_either true one lines others first second = nonempty lines first
     nonempty : (lines : List ℕ) → lines ≢ [] → lines ++ others ≢ []
     nonempty [] not_empty = λ nil. not_empty refl
     nonempty (byte ∷ rest) not_empty = λ nil. absurd cc
-
--- no more than before
-or-false : (flag : Bool) → (flag || false) ≡ flag
-or-false true = refl
-or-false false = refl
 
 -- ---- what was told
 
@@ -79,72 +81,108 @@ grew-push pieces piece text_old text_new report_old report_new grew = record {
 
 -- ---- the pieces of files
 
-module _ (names : List (List ℕ)) (found : Finds) (world : WorldOf) where
+module _ (source : Source) (found : Finds) (world : WorldOf) where
   -- the next piece is that of the file at its place
-  next_is : (before : List Piece) (i : ℕ) (name : List ℕ) (file : FileIs) (piece : Piece) → length before ≡ i → slice_get names i ≡ Some name → slice_get found.named i ≡ Some file → IsFilePiece world name file piece → IsNext names found world before piece
+  next_is : (before : List Piece) (i : ℕ) (name : List ℕ) (file : FileIs) (piece : Piece) → length before ≡ i → slice_get source.names i ≡ Some name → slice_get found.named i ≡ Some file → IsFilePiece world name file piece → IsNext source found world before piece
   next_is before i name file piece number at_name at_file is = inl (rw (number, at_name, at_file) is)
 
   -- no piece was told
-  pub told_none : (text report : Option (List ℕ)) → ToldFirst 0 false text text report report names found world
-  told_none text report = record { pieces = []; are = none; number = refl; grew = grew-none text report; refused_is = refl }
+  pub told_none : (text report : Option (List ℕ)) (tally : Tally) → tally ≡ record { has_line = false; printed = 0; refused = 0 } → Tallies 0 tally text text report report source found world
+  told_none text report tally same = rw same (record {
+    told = record { pieces = []; are = none; number = refl; grew = grew-none text report; refused_is = refl };
+    printed_is = refl;
+    refused_is = refl;
+  })
 
-  module _ (i : ℕ) (refused : Bool) (text_old text_mid text_new report_old report_mid report_new : Option (List ℕ)) (told : ToldFirst i refused text_old text_mid report_old report_mid names found world) where
+  module _ (i : ℕ) (tally : Tally) (text_old text_mid text_new report_old report_mid report_new : Option (List ℕ)) (told : Tallies i tally text_old text_mid report_old report_mid source found world) where
     -- the next piece was told
-    told_push : (piece : Piece) (one : Bool) → IsNext names found world told.pieces piece → text_new ≡ append_known text_mid piece.text → report_new ≡ append_known report_mid piece.lines → MatchBool one (piece.lines ≢ []) (piece.lines ≡ [])
-        → ToldFirst (i + 1) (refused || one) text_old text_new report_old report_new names found world
-    told_push piece one next text_taken report_taken refused_is = record {
-      pieces = told.pieces ++ piece ∷ [];
-      are = more told.pieces piece told.are next;
-      number = length_push told.pieces piece ∙ ap (λ n. n + 1) told.number;
-      grew = grew-push told.pieces piece text_old text_new report_old report_new
-          (grew-by told.pieces piece.text piece.lines text_old text_mid text_new report_old report_mid report_new told.grew text_taken report_taken);
-      refused_is = rw (lines-push told.pieces piece) (refused_either refused one (lines_of told.pieces) piece.lines told.refused_is refused_is);
+    told_push : (piece : Piece) (line : Bool) → IsNext source found world told.told.pieces piece → text_new ≡ append_known text_mid piece.text → report_new ≡ append_known report_mid piece.lines → MatchBool line (piece.lines ≢ []) (piece.lines ≡ [])
+        → ToldFirst (i + 1) (tally.has_line || line) text_old text_new report_old report_new source found world
+    told_push piece line next text_taken report_taken has_line = record {
+      pieces = told.told.pieces ++ piece ∷ [];
+      are = more told.told.pieces piece told.told.are next;
+      number = length_push told.told.pieces piece ∙ ap (λ n. n + 1) told.told.number;
+      grew = grew-push told.told.pieces piece text_old text_new report_old report_new
+          (grew-by told.told.pieces piece.text piece.lines text_old text_mid text_new report_old report_mid report_new told.told.grew text_taken report_taken);
+      refused_is = rw (lines-push told.told.pieces piece) (refused_either tally.has_line line (lines_of told.told.pieces) piece.lines told.told.refused_is has_line);
     }
 
-    module _ (Is : Piece → Type 0) (is_next : (piece : Piece) → Is piece → IsNext names found world told.pieces piece) where
+    module _ (Is : Piece → Type 0) (is_next : (piece : Piece) → Is piece → IsNext source found world told.told.pieces piece) where
       -- a piece was told, which is the next one
-      pub told_so : (one : Bool) → TellsPiece Is one text_mid text_new report_mid report_new → ToldFirst (i + 1) (refused || one) text_old text_new report_old report_new names found world
-      told_so one this = told_push this.piece one (is_next this.piece this.is) this.text_taken this.report_taken this.refused_is
+      pub told_so : (one : Tally) → TellsPiece Is one text_mid text_new report_mid report_new → ToldFirst (i + 1) (tally.has_line || one.has_line) text_old text_new report_old report_new source found world
+      told_so one this = told_push this.piece one.has_line (is_next this.piece this.is) this.text_taken this.report_taken this.has_line_is
 
       -- it was cut off
-      told_front : (cut : Cut) → CutsPiece Is cut text_mid text_new report_mid report_new → ToldFront cut text_old text_new report_old report_new names found world
+      told_front : (cut : Cut) → CutsPiece Is cut text_mid text_new report_mid report_new → ToldFront cut text_old text_new report_old report_new source found world
       told_front cut this = record {
-        pieces = told.pieces;
-        are = told.are;
+        pieces = told.told.pieces;
+        are = told.told.are;
         next = this.piece;
         is_next = is_next this.piece this.is;
         text = this.text;
         lines = this.lines;
         front = this.front;
-        grew = grew-by told.pieces this.text this.lines text_old text_mid text_new report_old report_mid report_new told.grew this.text_taken this.report_taken;
+        grew = grew-by told.told.pieces this.text this.lines text_old text_mid text_new report_old report_mid report_new told.told.grew this.text_taken this.report_taken;
       }
 
       -- telling stopped at it
       pub stops_so : (stop : TellStop) → StopsPiece Is stop text_mid text_new report_mid report_new
-          → StoppedTelling stop (ToldFront InText text_old text_new report_old report_new names found world) (ToldFront InLines text_old text_new report_old report_new names found world) (ToldSome text_old text_new report_old report_new names found world)
+          → StoppedTelling stop (ToldFront InText text_old text_new report_old report_new source found world) (ToldFront InLines text_old text_new report_old report_new source found world) (ToldSome text_old text_new report_old report_new source found world)
       stops_so Text this = told_front InText this
       stops_so Report this = told_front InLines this
       stops_so (Memory error) this = (
         i,
-        refused,
+        tally.has_line,
         record {
-          pieces = told.pieces;
-          are = told.are;
-          number = told.number;
-          grew = record { text_taken = this.0 ∙ told.grew.text_taken; report_taken = this.1 ∙ told.grew.report_taken };
-          refused_is = told.refused_is;
+          pieces = told.told.pieces;
+          are = told.told.are;
+          number = told.told.number;
+          grew = record { text_taken = this.0 ∙ told.told.grew.text_taken; report_taken = this.1 ∙ told.told.grew.report_taken };
+          refused_is = told.told.refused_is;
         },
       )
 
-    module _ (name : List ℕ) (file : FileIs) (at_name : slice_get names i ≡ Some name) (at_file : slice_get found.named i ≡ Some file) where
+    module _ (name : List ℕ) (file : FileIs) (at_name : slice_get source.names i ≡ Some name) (at_file : slice_get found.named i ≡ Some file) where
       -- the piece of the next file was told
-      pub told_more : (one : Bool) → TellsPiece (IsFilePiece world name file) one text_mid text_new report_mid report_new → ToldFirst (i + 1) (refused || one) text_old text_new report_old report_new names found world
-      told_more one this = told_so (IsFilePiece world name file) (λ piece is. next_is told.pieces i name file piece told.number at_name at_file is) one this
+      pub told_more : (one both : Tally) → both.has_line ≡ (tally.has_line || one.has_line) → both.printed ≡ tally.printed + one.printed → both.refused ≡ tally.refused + one.refused
+          → TellsPiece (IsFilePiece world name file) one text_mid text_new report_mid report_new → Tallies (i + 1) both text_old text_new report_old report_new source found world
+      told_more one both has_line printed refused this = record {
+        told = record {
+          pieces = told.told.pieces ++ this.piece ∷ [];
+          are = more told.told.pieces this.piece told.told.are (next_is told.told.pieces i name file this.piece told.told.number at_name at_file this.is);
+          number = length_push told.told.pieces this.piece ∙ ap (λ n. n + 1) told.told.number;
+          grew = grew-push told.told.pieces this.piece text_old text_new report_old report_new
+              (grew-by told.told.pieces this.piece.text this.piece.lines text_old text_mid text_new report_old report_mid report_new told.told.grew this.text_taken this.report_taken);
+          refused_is = rw (has_line, lines-push told.told.pieces this.piece) (refused_either tally.has_line one.has_line (lines_of told.told.pieces) this.piece.lines told.told.refused_is this.has_line_is);
+        };
+        printed_is = omega (arith, printed, told.printed_is, this.printed_is, sum_by_push (λ (piece : Piece). piece.printed) told.told.pieces this.piece);
+        refused_is = omega (arith, refused, told.refused_is, this.refused_is, sum_by_push (λ (piece : Piece). piece.refused) told.told.pieces this.piece);
+      }
 
       -- telling stopped at the next file
       pub stops_telling : (stop : TellStop) → StopsPiece (IsFilePiece world name file) stop text_mid text_new report_mid report_new
-          → StoppedTelling stop (ToldFront InText text_old text_new report_old report_new names found world) (ToldFront InLines text_old text_new report_old report_new names found world) (ToldSome text_old text_new report_old report_new names found world)
-      stops_telling stop this = stops_so (IsFilePiece world name file) (λ piece is. next_is told.pieces i name file piece told.number at_name at_file is) stop this
+          → StoppedTelling stop (ToldFront InText text_old text_new report_old report_new source found world) (ToldFront InLines text_old text_new report_old report_new source found world) (ToldSome text_old text_new report_old report_new source found world)
+      stops_telling stop this = stops_so (IsFilePiece world name file) (λ piece is. next_is told.told.pieces i name file piece told.told.number at_name at_file is) stop this
+
+  -- ---- the last piece
+
+  module _ (tally : Tally) (text_old text_mid text_new report_old report_mid report_new : Option (List ℕ)) (told : Tallies (length source.names) tally text_old text_mid report_old report_mid source found world) (piece : LastPiece)
+      (text_is : piece.text.items ≡ (if source.made then summary_text (length source.names) tally.printed tally.refused else [])) (lines_is : piece.lines.items ≡ last_lines found) where
+    -- the piece behind those of all files is the last one
+    last_is : (last : Piece) → last ≡ end_piece piece → IsNext source found world told.told.pieces last
+    last_is last same =
+        let text = text_is ∙ ap (λ count. if source.made then summary_text (length source.names) count tally.refused else []) told.printed_is
+        ∙ ap (λ count. if source.made then summary_text (length source.names) (printed_of told.told.pieces) count else []) told.refused_is in
+        inr (told.told.number, rw same (record { text_is = text; lines_are = lines_is; none_printed = refl; none_refused = refl }))
+
+    -- it was told
+    pub told_all : (one : Tally) → TellsPiece (λ last. last ≡ end_piece piece) one text_mid text_new report_mid report_new → ToldAll (tally.has_line || one.has_line) text_old text_new report_old report_new source found world
+    told_all one this = told_so (length source.names) tally text_old text_mid text_new report_old report_mid report_new told (λ last. last ≡ end_piece piece) last_is one this
+
+    -- telling stopped at it
+    pub stops_at_end : (stop : TellStop) → StopsPiece (λ last. last ≡ end_piece piece) stop text_mid text_new report_mid report_new
+        → StoppedTelling stop (ToldFront InText text_old text_new report_old report_new source found world) (ToldFront InLines text_old text_new report_old report_new source found world) (ToldSome text_old text_new report_old report_new source found world)
+    stops_at_end stop this = stops_so (length source.names) tally text_old text_mid text_new report_old report_mid report_new told (λ last. last ≡ end_piece piece) last_is stop this
 
 -- ---- the lines of one piece
 
@@ -206,8 +244,16 @@ refused-some class (cause.Constant name) = back-some (show_units class) 32 _
 -- ---- pieces of one kind are of another
 
 module _ (Is Also : Piece → Type 0) (also : (piece : Piece) → Is piece → Also piece) (text_old text_new report_old report_new : Option (List ℕ)) where
-  pub tells-as : (refused : Bool) → TellsPiece Is refused text_old text_new report_old report_new → TellsPiece Also refused text_old text_new report_old report_new
-  tells-as refused told = record { piece = told.piece; is = also told.piece told.is; text_taken = told.text_taken; report_taken = told.report_taken; refused_is = told.refused_is }
+  pub tells-as : (tally : Tally) → TellsPiece Is tally text_old text_new report_old report_new → TellsPiece Also tally text_old text_new report_old report_new
+  tells-as tally told = record {
+    piece = told.piece;
+    is = also told.piece told.is;
+    text_taken = told.text_taken;
+    report_taken = told.report_taken;
+    has_line_is = told.has_line_is;
+    printed_is = told.printed_is;
+    refused_is = told.refused_is;
+  }
 
   cuts-as : (cut : Cut) → CutsPiece Is cut text_old text_new report_old report_new → CutsPiece Also cut text_old text_new report_old report_new
   cuts-as cut told = record { piece = told.piece; is = also told.piece told.is; text = told.text; lines = told.lines; front = told.front; text_taken = told.text_taken; report_taken = told.report_taken }
@@ -229,21 +275,23 @@ library_lines-push (first ∷ paths) (other ∷ found) path file number =
 
 -- ---- a piece that is one line
 
-module _ (Is : Piece → Type 0) (line : List ℕ) (is : Is (record { text = []; lines = line })) (text : Option (List ℕ)) {report_old report_new : Option (List ℕ)} {faults_old faults_new : ℕ} where
+module _ (Is : Piece → Type 0) (line : List ℕ) (methods : ℕ) (is : Is (record { text = []; lines = line; printed = 0; refused = methods })) (text : Option (List ℕ)) {report_old report_new : Option (List ℕ)} {faults_old faults_new : ℕ} where
   -- the line was put
-  pub tells-line : {done : Unit {0}} → line ≢ [] → Puts (Ok done) report_old report_new faults_old faults_new line → TellsPiece Is true text text report_old report_new
-  tells-line some puts = record {
-    piece = record { text = []; lines = line };
+  pub tells-line : {done : Unit {0}} {tally : Tally} → tally ≡ record { has_line = true; printed = 0; refused = methods } → line ≢ [] → Puts (Ok done) report_old report_new faults_old faults_new line → TellsPiece Is tally text text report_old report_new
+  tells-line same some puts = rw same (record {
+    piece = record { text = []; lines = line; printed = 0; refused = methods };
     is = is;
     text_taken = known-nothing text;
     report_taken = puts.ok;
-    refused_is = some;
-  }
+    has_line_is = some;
+    printed_is = refl;
+    refused_is = refl;
+  })
 
   -- the line was cut off
   pub cuts-line : {fault : Failed} → Puts (Err fault) report_old report_new faults_old faults_new line → CutsPiece Is InLines text text report_old report_new
   cuts-line puts = record {
-    piece = record { text = []; lines = line };
+    piece = record { text = []; lines = line; printed = 0; refused = methods };
     is = is;
     text = [];
     lines = take puts.prefix.0 line;
@@ -260,6 +308,22 @@ module _ (world : WorldOf) (class : ClassOf) where
   is_printed piece prints_it told same = subst (IsClassPiece world class) (sym same) (prints prints_it)
 
   -- a piece that is the line with this cause
-  pub is_refused : (reason : ClassCause) → IsClassCause world class (Some reason) → (told : Piece) → told ≡ refused_piece class.this_class reason → IsClassPiece world class told
-  is_refused reason first told same =
-      subst (IsClassPiece world class) (sym same) (refuses (record { cause = reason; first = first; no_text = refl; line_is = refl }))
+  pub is_refused : (reason : ClassCause) (methods : ℕ) → IsClassCause world class (Some reason) → methods ≡ length class.methods → (told : Piece) → told ≡ refused_piece class.this_class reason methods → IsClassPiece world class told
+  is_refused reason methods first number told same =
+      subst (IsClassPiece world class) (sym same) (refuses (record { cause = reason; first = first; no_text = refl; line_is = refl; none_printed = refl; all_refused = number }))
+
+-- ---- how many methods a piece has
+
+-- a class has as many methods as its file
+methods-number : (class : ClassFile) → length (view_class class).methods ≡ length class.methods
+methods-number class = length-map class.methods view_method
+
+-- fewer than 2 ^ 32
+pub few_told : (world : WorldOf) (name : List ℕ) (file : FileIs) (piece : Piece) → IsOfFile file → IsFilePiece world name file piece → (piece.printed < 2 ^ 32) × (piece.refused < 2 ^ 32)
+few_told world name (IsClass class) piece read (prints is) =
+    let all = counted world (view_class class) (view_class class).methods is.verdicts is.judged in
+    (omega (arith, all, methods-number class, is.printed_is, read.few), omega (arith, all, methods-number class, is.refused_is, read.few))
+few_told world name (IsClass class) piece read (refuses is) =
+    (omega (arith, is.none_printed), omega (arith, is.all_refused, methods-number class, read.few))
+few_told world name (IsClash kind) piece read is = rw is (omega arith, omega arith)
+few_told world name (IsBroken kind offset) piece read is = rw is (omega arith, omega arith)

@@ -1,5 +1,5 @@
 -- What is found of the fields and the methods of a class.
-use Rattle.std.specs.Prelude.{◌≡◌, ℕ, List, [], ◌++◌, length, slice_get, Option, Some, None, IsSomeAnd}
+use Rattle.std.specs.Prelude.{◌≡◌, ℕ, false, List, [], ◌++◌, length, slice_get, Option, Some, None, IsSomeAnd}
 use Rattle.dj_class.specs.Described.{ClassOf, FieldOf, MethodOf}
 use Rattle.dj_world.specs.Worlds.{WorldOf}
 use Rattle.dj_syntax.specs.Trees.{Exp, Body, view_body, view_exp}
@@ -16,7 +16,7 @@ use Rattle.dj_cli.specs.declared.methods.Told.TheVariants as told
 use Rattle.dj_report.specs.Report.{shown_method}
 use Rattle.dj_cli.specs.declared.endings.MemberLine.{MemberLine}
 use Rattle.dj_cli.specs.Lines.{ending_bytes, line_bytes}
-use Rattle.dj_cli.specs.Output.{Verdict, IsVerified, IsBareMethod, IsRefusedMethod, IsBadMethod, IsUnverifiedMethod, IsNotYetMethod, IsVerdict, AreVerdicts, AreFieldCauses, body_of, bodies_of, field_line, field_lines, method_line, method_lines}
+use Rattle.dj_cli.specs.Output.{Verdict, IsVerified, IsBareMethod, IsRefusedMethod, IsBadMethod, IsUnverifiedMethod, IsNotYetMethod, IsVerdict, AreVerdicts, AreFieldCauses, body_of, bodies_of, field_line, field_lines, is_printed, method_line, method_lines, refused_among}
 
 -- the causes of the fields of a class, and the lines on those that have one
 pub record HaveLines (world : WorldOf) (class : ClassOf) (fields : List FieldOf) (lines : List ℕ) : Type 0 where
@@ -50,6 +50,7 @@ pub record IsLineOf (world : WorldOf) (class : ClassOf) (before : List MethodOf)
   pub verdict : Verdict
   pub is_verdict : IsVerdict world class before method verdict
   pub no_body : body_of verdict ≡ None
+  pub not_printed : is_printed verdict ≡ false
   pub line_is : method_line class method verdict ≡ shown_method class.this_class method.name method.descriptor ++ tail
 
 -- the body of a method that is printed
@@ -64,10 +65,11 @@ IsToldOf world class before method (told.Body body) = IsPrintOf world class befo
 IsToldOf world class before method told.Bare = IsBareMethod world class (length before) method
 IsToldOf world class before method (told.Line ending) = IsLineOf world class before method (ending_bytes ending)
 
--- verdicts on methods of a class, the bodies of those that are printed with one, each of which fits, and the lines on those that aren't printed
-pub record AreJudged (world : WorldOf) (class : ClassOf) (methods : List MethodOf) (bodies : List (Option Body)) (lines : List ℕ) : Type 0 where
+-- verdicts on methods of a class, the bodies of those that are printed with one, each of which fits, the lines on those that aren't printed, and how many these are
+pub record AreJudged (world : WorldOf) (class : ClassOf) (methods : List MethodOf) (bodies : List (Option Body)) (lines : List ℕ) (refused : ℕ) : Type 0 where
   pub verdicts : List Verdict
   pub judged : AreVerdicts world class [] methods verdicts
   pub bodies_are : bodies ≡ bodies_of verdicts
   pub lines_are : lines ≡ method_lines class methods verdicts
+  pub refused_is : refused ≡ refused_among verdicts
   pub fit : FitBodies (is_interface class.flags) class.this_class methods bodies

@@ -1,5 +1,5 @@
 -- What a run tells of the files of an order, in pieces, and how far it got: the headline. Each definition that takes a world speaks of the one that the files make.
-use Rattle.std.specs.Prelude.{◌≡◌, ◌≢◌, ◌⊎◌, ℕ, ◌+◌, Bool, List, [], ◌∷◌, ◌++◌, length, map, take, slice_get, Option, Some, None, IsSome, IsSomeAnd, MatchBool, ⊤, codes}
+use Rattle.std.specs.Prelude.{◌≡◌, ◌≢◌, ◌⊎◌, ℕ, ◌+◌, Bool, true, false, not, if◌then◌else◌, List, [], ◌∷◌, ◌++◌, length, filter, map, sum_by, take, slice_get, Option, Some, None, IsSome, IsSomeAnd, MatchBool, ⊤, codes}
 use Rattle.std.specs.List.{flat_map}
 use Rattle.std.specs.Io.KnownBytes.{append_known}
 use Rattle.dj_class.specs.Described.{ClassOf, FieldOf, MethodOf}
@@ -28,12 +28,15 @@ use Rattle.dj_report.specs.Report.{line_text}
 use Rattle.dj_report.specs.Report as report
 use Rattle.dj_world.specs.declared.fault.ClashKind.{ClashKind}
 use Rattle.dj_world.specs.declared.fault.ClashKind.TheVariants as clash
+use Rattle.dj_making.specs.MadeFiles.{MadeSetting, made_names, summary_text}
 use Rattle.dj_load.specs.HeldFiles.{Files, FileIs, Finds, IsClass, IsClash, IsBroken, Setting}
 
--- what is told of one file, or behind the last one: a text, and then the lines of the report on it
+-- what is told of one file, or behind the last one: a text, and then the lines of the report on it; and how many of its methods are printed, and how many aren't
 pub record Piece : Type 0 where
   pub text : List ℕ
   pub lines : List ℕ
+  pub printed : ℕ
+  pub refused : ℕ
 
 -- ---- a method
 
@@ -116,6 +119,23 @@ body_of (NotYet pc) = None
 abbrev pub bodies_of : List Verdict → List (Option Body)
 bodies_of verdicts = map body_of verdicts
 
+-- a method is printed, with a body or without
+abbrev pub is_printed : Verdict → Bool
+is_printed (Prints body) = true
+is_printed Bare = true
+is_printed (Refused cause) = false
+is_printed (Bad kind pc) = false
+is_printed (Unverified rule pc) = false
+is_printed (NotYet pc) = false
+
+-- how many methods are printed
+abbrev pub printed_among : List Verdict → ℕ
+printed_among verdicts = length (filter is_printed verdicts)
+
+-- how many aren't
+abbrev pub refused_among : List Verdict → ℕ
+refused_among verdicts = length (filter (λ verdict. not (is_printed verdict)) verdicts)
+
 -- the line on a method, none where it is printed
 abbrev pub method_line : ClassOf → MethodOf → Verdict → List ℕ
 method_line class method (Prints body) = []
@@ -172,26 +192,47 @@ pub record PrintsClass (world : WorldOf) (class : ClassOf) (piece : Piece) : Typ
   pub one_reading : (other : CompilationUnit) → IsWellFormed other → unit_text other ≡ unit_text unit → other ≡ unit
   pub text_is : piece.text ≡ file_line class.this_class ++ unit_text unit
   pub lines_are : piece.lines ≡ field_lines class class.fields causes ++ method_lines class class.methods verdicts
+  pub printed_is : piece.printed ≡ printed_among verdicts
+  pub refused_is : piece.refused ≡ refused_among verdicts
 
--- a class isn't printed: it has no text, and the line with its first cause
+-- a class isn't printed: it has no text, the line with its first cause, and none of its methods is printed
 pub record RefusesClass (world : WorldOf) (class : ClassOf) (piece : Piece) : Type 0 where
   pub cause : ClassCause
   pub first : IsClassCause world class (Some cause)
   pub no_text : piece.text ≡ []
   pub line_is : piece.lines ≡ line_text (report.RefusedClass class.this_class cause)
+  pub none_printed : piece.printed ≡ 0
+  pub all_refused : piece.refused ≡ length class.methods
 
 -- the piece of a class: it is printed, or it has a cause
 pub data IsClassPiece (world : WorldOf) (class : ClassOf) (piece : Piece) : Type 0 where
   prints : PrintsClass world class piece → IsClassPiece world class piece
   refuses : RefusesClass world class piece → IsClassPiece world class piece
 
+-- the piece of a file without a class in the world: a line, and no method
+abbrev pub line_piece : List ℕ → Piece
+line_piece line = record { text = []; lines = line; printed = 0; refused = 0 }
+
 -- the piece of a file of this name: that of its class, or the line that its class clashes, or that it is broken
 abbrev pub IsFilePiece : WorldOf → List ℕ → FileIs → Piece → Type 0
 IsFilePiece world name (IsClass class) piece = IsClassPiece world (view_class class) piece
-IsFilePiece world name (IsClash kind) piece = (piece.text ≡ []) × (piece.lines ≡ line_text (report.Clash name kind))
-IsFilePiece world name (IsBroken kind offset) piece = (piece.text ≡ []) × (piece.lines ≡ line_text (report.Broken name kind offset))
+IsFilePiece world name (IsClash kind) piece = piece ≡ line_piece (line_text (report.Clash name kind))
+IsFilePiece world name (IsBroken kind offset) piece = piece ≡ line_piece (line_text (report.Broken name kind offset))
 
 -- ---- all files
+
+-- the files that pieces are told of: their names, and whether the program makes them
+pub record Source : Type 0 where
+  pub names : List (List ℕ)
+  pub made : Bool
+
+-- files of these names are loaded
+abbrev pub loaded_source : List (List ℕ) → Source
+loaded_source names = record { names = names; made = false }
+
+-- so many files are made
+abbrev pub made_source : ℕ → Source
+made_source number = record { names = made_names number; made = true }
 
 -- the line on a list of library files that isn't UTF-8
 abbrev pub unread_line : Option (List ℕ) → List ℕ
@@ -221,21 +262,35 @@ library_lines (path ∷ paths) (file ∷ found) = library_line path file ++ libr
 abbrev pub last_lines : Finds → List ℕ
 last_lines found = unread_line found.unread ++ library_lines found.paths found.library
 
--- the piece behind those of the named files: it has no text
-pub record IsLastPiece (found : Finds) (piece : Piece) : Type 0 where
-  pub no_text : piece.text ≡ []
-  pub lines_are : piece.lines ≡ last_lines found
+-- how many methods are printed, by pieces, and how many aren't
+abbrev pub printed_of : List Piece → ℕ
+printed_of pieces = sum_by (λ (piece : Piece). piece.printed) pieces
 
--- the piece behind these: that of the next named file, or behind all of these the last one
-abbrev pub IsNext : List (List ℕ) → Finds → WorldOf → List Piece → Piece → Type 0
-IsNext names found world before piece =
-    IsSomeAnd (slice_get names (length before)) (λ name. IsSomeAnd (slice_get found.named (length before)) (λ file. IsFilePiece world name file piece))
-    ⊎ ((length before ≡ length names) × IsLastPiece found piece)
+abbrev pub refused_of : List Piece → ℕ
+refused_of pieces = sum_by (λ (piece : Piece). piece.refused) pieces
+
+-- the text behind those of these pieces: where files are made, the line on them and on their methods
+abbrev pub last_text : Source → List Piece → List ℕ
+last_text source before =
+    if source.made then summary_text (length source.names) (printed_of before) (refused_of before) else []
+
+-- the piece behind those of the files: it has no method
+pub record IsLastPiece (source : Source) (found : Finds) (before : List Piece) (piece : Piece) : Type 0 where
+  pub text_is : piece.text ≡ last_text source before
+  pub lines_are : piece.lines ≡ last_lines found
+  pub none_printed : piece.printed ≡ 0
+  pub none_refused : piece.refused ≡ 0
+
+-- the piece behind these: that of the next file, or behind all of these the last one
+abbrev pub IsNext : Source → Finds → WorldOf → List Piece → Piece → Type 0
+IsNext source found world before piece =
+    IsSomeAnd (slice_get source.names (length before)) (λ name. IsSomeAnd (slice_get found.named (length before)) (λ file. IsFilePiece world name file piece))
+    ⊎ ((length before ≡ length source.names) × IsLastPiece source found before piece)
 
 -- some first pieces, in order
-pub data AreFirst (names : List (List ℕ)) (found : Finds) (world : WorldOf) : List Piece → Type 0 where
-  none : AreFirst names found world []
-  more : (before : List Piece) (piece : Piece) → AreFirst names found world before → IsNext names found world before piece → AreFirst names found world (before ++ piece ∷ [])
+pub data AreFirst (source : Source) (found : Finds) (world : WorldOf) : List Piece → Type 0 where
+  none : AreFirst source found world []
+  more : (before : List Piece) (piece : Piece) → AreFirst source found world before → IsNext source found world before piece → AreFirst source found world (before ++ piece ∷ [])
 
 -- the texts of pieces, one after another
 abbrev pub text_of : List Piece → List ℕ
@@ -253,22 +308,22 @@ pub record Grew (pieces : List Piece) (text lines : List ℕ) (text_old text_new
   pub report_taken : report_new ≡ append_known report_old (lines_of pieces ++ lines)
 
 -- so many first pieces were told, whole, and nothing besides; the flag tells whether they have a line
-pub record ToldFirst (count : ℕ) (refused : Bool) (text_old text_new report_old report_new : Option (List ℕ)) (names : List (List ℕ)) (found : Finds) (world : WorldOf) : Type 0 where
+pub record ToldFirst (count : ℕ) (refused : Bool) (text_old text_new report_old report_new : Option (List ℕ)) (source : Source) (found : Finds) (world : WorldOf) : Type 0 where
   pub pieces : List Piece
-  pub are : AreFirst names found world pieces
+  pub are : AreFirst source found world pieces
   pub number : length pieces ≡ count
   pub grew : Grew pieces [] [] text_old text_new report_old report_new
   pub refused_is : MatchBool refused (lines_of pieces ≢ []) (lines_of pieces ≡ [])
 
 -- the pieces of all files and the last one were told; the flag tells whether there is a line
-abbrev pub ToldAll : Bool → Option (List ℕ) → Option (List ℕ) → Option (List ℕ) → Option (List ℕ) → List (List ℕ) → Finds → WorldOf → Type 0
-ToldAll refused text_old text_new report_old report_new names found world =
-    ToldFirst (length names + 1) refused text_old text_new report_old report_new names found world
+abbrev pub ToldAll : Bool → Option (List ℕ) → Option (List ℕ) → Option (List ℕ) → Option (List ℕ) → Source → Finds → WorldOf → Type 0
+ToldAll refused text_old text_new report_old report_new source found world =
+    ToldFirst (length source.names + 1) refused text_old text_new report_old report_new source found world
 
 -- some first pieces were told, whole, and nothing besides
-abbrev pub ToldSome : Option (List ℕ) → Option (List ℕ) → Option (List ℕ) → Option (List ℕ) → List (List ℕ) → Finds → WorldOf → Type 0
-ToldSome text_old text_new report_old report_new names found world =
-    (count : ℕ) × (refused : Bool) × ToldFirst count refused text_old text_new report_old report_new names found world
+abbrev pub ToldSome : Option (List ℕ) → Option (List ℕ) → Option (List ℕ) → Option (List ℕ) → Source → Finds → WorldOf → Type 0
+ToldSome text_old text_new report_old report_new source found world =
+    (count : ℕ) × (refused : Bool) × ToldFirst count refused text_old text_new report_old report_new source found world
 
 -- where telling a piece was cut off
 pub data Cut : Type 0 where
@@ -281,24 +336,31 @@ Front InText piece text lines = (count : ℕ) × (text ≡ take count piece.text
 Front InLines piece text lines = (count : ℕ) × (text ≡ piece.text) × (lines ≡ take count piece.lines)
 
 -- some first pieces were told, whole, of the next one a front, and nothing besides
-pub record ToldFront (cut : Cut) (text_old text_new report_old report_new : Option (List ℕ)) (names : List (List ℕ)) (found : Finds) (world : WorldOf) : Type 0 where
+pub record ToldFront (cut : Cut) (text_old text_new report_old report_new : Option (List ℕ)) (source : Source) (found : Finds) (world : WorldOf) : Type 0 where
   pub pieces : List Piece
-  pub are : AreFirst names found world pieces
+  pub are : AreFirst source found world pieces
   pub next : Piece
-  pub is_next : IsNext names found world pieces next
+  pub is_next : IsNext source found world pieces next
   pub text : List ℕ
   pub lines : List ℕ
   pub front : Front cut next text lines
   pub grew : Grew pieces text lines text_old text_new report_old report_new
 
 -- so much was told of the files of an order and of the world that they make; they are the named ones and those of this list where the files tell what they hold
-pub record OfFiles (held : Option Files) (named : List (List ℕ)) (list : Option (List ℕ)) (Told : List (List ℕ) → Finds → WorldOf → Type 0) : Type 0 where
+pub record OfFiles (held : Option Files) (named : List (List ℕ)) (list : Option (List ℕ)) (Told : Source → Finds → WorldOf → Type 0) : Type 0 where
   pub found : Finds
   pub world : WorldOf
   pub setting : Setting held named list found world
-  pub told : Told named found world
+  pub told : Told (loaded_source named) found world
 
--- a run that wanted memory had put nothing, or some first pieces, whole
-abbrev pub StopsForMemory : Option Files → List (List ℕ) → Option (List ℕ) → Option (List ℕ) → Option (List ℕ) → Option (List ℕ) → Option (List ℕ) → Type 0
-StopsForMemory held named list text_old text_new report_old report_new =
-    ((text_new ≡ text_old) × (report_new ≡ report_old)) ⊎ OfFiles held named list (ToldSome text_old text_new report_old report_new)
+-- so much was told of so many files that the program made, and of the world that they make
+pub record OfMade (number : ℕ) (Told : Source → Finds → WorldOf → Type 0) : Type 0 where
+  pub found : Finds
+  pub world : WorldOf
+  pub setting : MadeSetting number found world
+  pub told : Told (made_source number) found world
+
+-- a run that wanted memory had put nothing, or so much was told
+abbrev pub StopsForMemory : Option (List ℕ) → Option (List ℕ) → Option (List ℕ) → Option (List ℕ) → Type 0 → Type 0
+StopsForMemory text_old text_new report_old report_new told =
+    ((text_new ≡ text_old) × (report_new ≡ report_old)) ⊎ told

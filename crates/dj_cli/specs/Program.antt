@@ -1,26 +1,17 @@
--- Which files a run is to load, and how a run ends that prints nothing.
+-- Which files a run is to load, of which it tells, and how a run ends that prints nothing.
 use Rattle.std.specs.Prelude.{◌≡◌, ℕ, List, [], Option, None, Result, Ok, Err}
 use Rattle.std.specs.Io.KnownBytes.{append_known}
 use Rattle.dj_outer.specs.Sink.{TakesPrefix}
 use Rattle.dj_words.specs.declared.order.UsageKind.{UsageKind}
-use Rattle.dj_words.specs.declared.order.UsageKind.TheVariants as kind
-use Rattle.dj_words.specs.Orders.{Asked, Files, Make, order_of}
+use Rattle.dj_words.specs.Orders.{Asked, Files, Make}
 use Rattle.dj_report.specs.Report.{Line, Usage, Read, Much, line_text}
 use Rattle.dj_load.specs.HeldFiles as held
-use Rattle.dj_load.specs.HeldFiles.{OfDue}
+use Rattle.dj_load.specs.HeldFiles.{Finds, OfDue}
 use Rattle.dj_load.specs.Loads.{ReadFails, IsTooMuch}
+use Rattle.dj_world.specs.Worlds.{WorldOf}
+use Rattle.dj_cli.specs.Output.{Source, OfFiles, OfMade}
 
--- an order to print files; one to make classes isn't taken yet
-abbrev pub printed_order : Result Asked UsageKind → Result Asked UsageKind
-printed_order (Ok (Files named list raw)) = Ok (Files named list raw)
-printed_order (Ok (Make number)) = Err kind.Words
-printed_order (Err why) = Err why
-
--- the order of the words, or what is wrong with them
-abbrev pub taken_order : List (List ℕ) → Result Asked UsageKind
-taken_order words = printed_order (order_of words)
-
--- the files that an order names to be printed; words that give none name none
+-- the files that an order names to be printed; one to make files names none, and neither do words that give none
 abbrev pub named_of : Result Asked UsageKind → List (List ℕ)
 named_of (Ok (Files named list raw)) = named
 named_of (Ok (Make number)) = []
@@ -31,6 +22,12 @@ abbrev pub list_of : Result Asked UsageKind → Option (List ℕ)
 list_of (Ok (Files named list raw)) = list
 list_of (Ok (Make number)) = None
 list_of (Err why) = None
+
+-- so much was told of the files of an order, named or made, and of the world that they make
+abbrev pub OfOrder : Option held.Files → Result Asked UsageKind → (Source → Finds → WorldOf → Type 0) → Type 0
+OfOrder held (Ok (Files named list raw)) Told = OfFiles held named list Told
+OfOrder held (Ok (Make number)) Told = OfMade number Told
+OfOrder held (Err why) Told = ⊥
 
 -- ---- last lines
 

@@ -1,15 +1,26 @@
-//! The lines behind those on the named files: on the list of library files, and on these.
+//! What is told behind all files: where they are made, the line of text on them; the lines on the list of library files, and on these.
 
-ghost use Rattle.std.specs.Prelude.{◌≡◌, ◌++◌, IfOk, OnOk, length, map};
+ghost use Rattle.std.specs.Prelude.{◌≡◌, ◌++◌, [], IfOk, OnOk, if◌then◌else◌, length, map};
 ghost use Rattle.std.specs.String.{string_bytes};
 ghost use Rattle.std.specs.Option.{option_map};
 ghost use Rattle.dj_load.specs.Loading.{all_found, finds_of, found_of};
+ghost use Rattle.dj_making.specs.MadeFiles.{summary_text};
 ghost use Rattle.dj_cli.specs.Output.{behind_line, last_lines, library_line, library_lines, unread_line};
 
+use crate::tally::Tally;
 use dj_load::{Found, FoundFiles};
+use dj_making::summary_line;
 use dj_report::{broken_line, clash_line, list_line};
 use dj_world::ClashKind;
 use std::alloc::{AllocError, Global};
+
+/// What is told behind all files.
+#[derive(Drop)]
+pub struct LastPiece {
+    pub text: Vec<u8>,
+    /// The lines of the report.
+    pub lines: Vec<u8>,
+}
 
 /// The line on a list of library files that isn't UTF-8.
 fn unread_line(alloc: Global, path: &Option<String>) -> Result<Vec<u8>, AllocError>
@@ -62,7 +73,7 @@ fn add_library_lines(
 }
 
 /// The lines behind those on the named files.
-pub fn last_lines(alloc: Global, files: &FoundFiles) -> Result<Vec<u8>, AllocError>
+fn last_lines(alloc: Global, files: &FoundFiles) -> Result<Vec<u8>, AllocError>
     requires number { length files.now.library.items ≡ length files.now.paths.items }
     ensures lines { IfOk result (λ lines. lines.items ≡ last_lines (finds_of files.now)) }
 {
@@ -71,4 +82,32 @@ pub fn last_lines(alloc: Global, files: &FoundFiles) -> Result<Vec<u8>, AllocErr
     let found = files.library.as_slice();
     add_library_lines(alloc, &mut lines, paths, found)?;
     Ok(lines)
+}
+
+/// The text behind those of so many files: where they are made, the line on them and on their methods.
+fn last_text(alloc: Global, number: usize, made: bool, tally: Tally) -> Result<Vec<u8>, AllocError>
+    ensures text { IfOk result (λ text. text.items ≡ (if made then summary_text number tally.printed tally.refused else [])) }
+{
+    if made {
+        summary_line(alloc, number, tally.printed, tally.refused)
+    } else {
+        Ok(Vec::new(alloc))
+    }
+}
+
+/// The piece behind those of so many files.
+pub fn last_piece(
+    alloc: Global,
+    number: usize,
+    made: bool,
+    tally: Tally,
+    files: &FoundFiles,
+) -> Result<LastPiece, AllocError>
+    requires number { length files.now.library.items ≡ length files.now.paths.items }
+    ensures text { IfOk result (λ piece. piece.text.items ≡ (if made then summary_text number tally.printed tally.refused else [])) }
+    ensures lines { IfOk result (λ piece. piece.lines.items ≡ last_lines (finds_of files.now)) }
+{
+    let text = last_text(alloc, number, made, tally)?;
+    let lines = last_lines(alloc, files)?;
+    Ok(LastPiece { text, lines })
 }

@@ -219,7 +219,7 @@ pub fn judge_methods<'a>(
     causes: &Causes,
 ) -> Result<Judgement<'a>, AllocError>
     requires made { AreCauses world.now (view_class class.now) causes.now }
-    ensures judged { IfOk result (λ found. AreJudged world.now (view_class class.now) (view_class class.now).methods (map (option_map view_body) found.bodies) (lines_bytes class.now.this_class found.lines.items)) }
+    ensures judged { IfOk result (λ found. AreJudged world.now (view_class class.now) (view_class class.now).methods (map (option_map view_body) found.bodies) (lines_bytes class.now.this_class found.lines.items) (length found.lines.items)) }
 {
     let mut bodies = Items::new(alloc);
     let mut lines = Vec::new(alloc);

@@ -32,6 +32,8 @@ pub struct ClassPiece<'a> {
     pub fields: Vec<MemberLine<'a>>,
     /// The lines of the report on its methods.
     pub methods: Vec<MemberLine<'a>>,
+    /// How many methods have none.
+    pub printed: usize,
 }
 
 /// What is told of a class.
@@ -70,22 +72,24 @@ fn printed_piece<'a>(
 {
     let fields = field_lines(alloc, world, class, causes)?;
     let Judgement { bodies, lines } = judge_methods(alloc, world, class, causes)?;
+    let printed = class.methods.len() - lines.len();
     let unit = class_text(alloc, world, class, causes, bodies)?;
-    let piece = piece_of_unit(alloc, &class.this_class, &unit, fields, lines)?;
+    let piece = piece_of_unit(alloc, &class.this_class, &unit, fields, lines, printed)?;
     Ok(piece)
 }
 
-/// What is told of a class of this name, whose unit and lines are these.
+/// What is told of a class of this name, whose unit and lines are these, and of which so many methods are printed.
 fn piece_of_unit<'a>(
     alloc: Global,
     name: &ClassName,
     unit: &Unit,
     fields: Vec<MemberLine<'a>>,
     methods: Vec<MemberLine<'a>>,
+    printed: usize,
 ) -> Result<ClassPiece<'a>, AllocError>
     requires ascii { All (λ letter. letter < 128) name.now }
     requires well_formed { IsWellFormed (view_unit unit.now) }
-    ensures piece { IfOk result (λ piece. piece_of name.now piece ≡ piece_of_parts name.now (view_unit unit.now) fields.entry.items methods.entry.items) }
+    ensures piece { IfOk result (λ piece. piece_of name.now piece ≡ piece_of_parts name.now (view_unit unit.now) fields.entry.items methods.entry.items printed) }
 {
     let line = file_line(alloc, name)?;
     let unit = unit_bytes(alloc, unit)?;
@@ -94,6 +98,7 @@ fn piece_of_unit<'a>(
         unit,
         fields,
         methods,
+        printed,
     })
 }
 

@@ -8,14 +8,15 @@ ghost use Rattle.dj_class.specs.Views.{view_class};
 ghost use Rattle.dj_world.specs.Worlds.{WorldOf};
 ghost use Rattle.dj_class_text.specs.Formed.{IsFromFile};
 ghost use Rattle.dj_load.specs.Loading.{finds_of, found_of};
-ghost use Rattle.dj_cli.specs.Output.{InLines, InText, IsClassPiece, IsFilePiece, IsLastPiece, ToldAll, ToldFront, ToldSome};
-ghost use Rattle.dj_load.specs.HeldFiles.{IsBroken, IsClash};
-ghost use Rattle.dj_cli.specs.Pieces.{IsOfFile, piece_of, refused_piece, report_bytes, text_bytes};
-ghost use Rattle.dj_cli.specs.Telling.{StoppedTelling, StopsPiece, TellsPiece};
+ghost use Rattle.dj_cli.specs.Output.{InLines, InText, IsClassPiece, IsFilePiece, ToldAll, ToldFront, ToldSome};
+ghost use Rattle.dj_load.specs.HeldFiles.{IsBroken, IsClash, most_files};
+ghost use Rattle.dj_cli.specs.Pieces.{IsOfFile, end_piece, piece_of, refused_piece, report_bytes, text_bytes};
+ghost use Rattle.dj_cli.specs.Telling.{StoppedTelling, StopsPiece, TellsPiece, source_of};
 
 use crate::endings::put_lines;
-use crate::last::last_lines;
+use crate::last::{LastPiece, last_piece};
 use crate::pieces::{ClassPiece, ClassTold, piece_of_class};
+use crate::tally::{Tally, both, line_tally, no_tally};
 use dj_causes::ClassCause;
 use dj_class::{BrokenKind, ClassFile};
 use dj_load::{Found, FoundFiles};
@@ -75,15 +76,14 @@ fn has_line(piece: &ClassPiece<'_>) -> bool
     fields | methods
 }
 
-/// Tells a piece of a class that is printed: its text, and then its lines, for which no memory is taken; whether it
-/// has a line.
+/// Tells a piece of a class that is printed: its text, and then its lines, for which no memory is taken.
 fn tell_printed<T: Sink, P: Sink>(
     class: &ClassName,
     piece: &ClassPiece<'_>,
     text: &mut T,
     report: &mut P,
-) -> Result<bool, TellStop>
-    ensures told { IfOk result (λ refused. TellsPiece (λ told. told ≡ piece_of class.now piece.now) refused (T.taken text.old) (T.taken text.new) (P.taken report.old) (P.taken report.new)) }
+) -> Result<Tally, TellStop>
+    ensures told { IfOk result (λ tally. TellsPiece (λ told. told ≡ piece_of class.now piece.now) tally (T.taken text.old) (T.taken text.new) (P.taken report.old) (P.taken report.new)) }
     ensures stopped { IfErr result (λ stop. StopsPiece (λ told. told ≡ piece_of class.now piece.now) stop (T.taken text.old) (T.taken text.new) (P.taken report.old) (P.taken report.new)) }
     ensures failed { IfErr result (λ stop. StoppedTelling stop (Rose (T.faults text.old) (T.faults text.new)) (Rose (P.faults report.old) (P.faults report.new)) (Unit {0})) }
 
@@ -97,38 +97,43 @@ fn tell_printed<T: Sink, P: Sink>(
     if let Err(Failed) = put_report(report, class, piece) {
         return Err(TellStop::Report);
     }
-    Ok(has_line(piece))
+    Ok(Tally {
+        has_line: has_line(piece),
+        printed: piece.printed,
+        refused: piece.methods.len(),
+    })
 }
 
-/// Tells the line on a class that is refused; that it has a line.
+/// Tells the line on a class that is refused, with so many methods.
 fn tell_refused<P: Sink>(
     alloc: Global,
     class: &ClassName,
     cause: &ClassCause,
+    methods: usize,
     report: &mut P,
-) -> Result<bool, TellStop>
-    ensures told { (text : Option (List ℕ)) → IfOk result (λ refused. TellsPiece (λ told. told ≡ refused_piece class.now cause.now) refused text text (P.taken report.old) (P.taken report.new)) }
-    ensures stopped { (text : Option (List ℕ)) → IfErr result (λ stop. StopsPiece (λ told. told ≡ refused_piece class.now cause.now) stop text text (P.taken report.old) (P.taken report.new)) }
+) -> Result<Tally, TellStop>
+    ensures told { (text : Option (List ℕ)) → IfOk result (λ tally. TellsPiece (λ told. told ≡ refused_piece class.now cause.now methods) tally text text (P.taken report.old) (P.taken report.new)) }
+    ensures stopped { (text : Option (List ℕ)) → IfErr result (λ stop. StopsPiece (λ told. told ≡ refused_piece class.now cause.now methods) stop text text (P.taken report.old) (P.taken report.new)) }
     ensures failed { IfErr result (λ stop. StoppedTelling stop ⊥ (Rose (P.faults report.old) (P.faults report.new)) (Unit {0})) }
     ensures report_falls { P.faults report.old ≤ P.faults report.new }
 {
     let tail = refused_class_tail(alloc, cause)?;
     match put_refused_class_line(report, class, tail.as_str()) {
-        Ok(()) => Ok(true),
+        Ok(()) => Ok(line_tally(methods)),
         Err(Failed) => Err(TellStop::Report),
     }
 }
 
-/// Tells the piece of a class; whether it has a line.
+/// Tells the piece of a class.
 fn tell_class<T: Sink, P: Sink>(
     alloc: Global,
     world: &World,
     class: &ClassFile,
     text: &mut T,
     report: &mut P,
-) -> Result<bool, TellStop>
+) -> Result<Tally, TellStop>
     requires of_file { IsFromFile (view_class class.now) }
-    ensures told { IfOk result (λ refused. TellsPiece (IsClassPiece world.now (view_class class.now)) refused (T.taken text.old) (T.taken text.new) (P.taken report.old) (P.taken report.new)) }
+    ensures told { IfOk result (λ tally. TellsPiece (IsClassPiece world.now (view_class class.now)) tally (T.taken text.old) (T.taken text.new) (P.taken report.old) (P.taken report.new)) }
     ensures stopped { IfErr result (λ stop. StopsPiece (IsClassPiece world.now (view_class class.now)) stop (T.taken text.old) (T.taken text.new) (P.taken report.old) (P.taken report.new)) }
     ensures failed { IfErr result (λ stop. StoppedTelling stop (Rose (T.faults text.old) (T.faults text.new)) (Rose (P.faults report.old) (P.faults report.new)) (Unit {0})) }
 
@@ -138,50 +143,53 @@ fn tell_class<T: Sink, P: Sink>(
 {
     match piece_of_class(alloc, world, class)? {
         ClassTold::Printed(piece) => tell_printed(&class.this_class, &piece, text, report),
-        ClassTold::Refused(cause) => tell_refused(alloc, &class.this_class, &cause, report),
+        ClassTold::Refused(cause) => {
+            let methods = class.methods.len();
+            tell_refused(alloc, &class.this_class, &cause, methods, report)
+        }
     }
 }
 
-/// Tells the line on a file that is broken; that it has a line.
+/// Tells the line on a file that is broken.
 fn tell_broken<P: Sink>(
     alloc: Global,
     path: &str,
     kind: BrokenKind,
     offset: u32,
     report: &mut P,
-) -> Result<bool, TellStop>
-    ensures told { (world : WorldOf) (text : Option (List ℕ)) → IfOk result (λ refused. TellsPiece (IsFilePiece world path.now (IsBroken kind offset)) refused text text (P.taken report.old) (P.taken report.new)) }
+) -> Result<Tally, TellStop>
+    ensures told { (world : WorldOf) (text : Option (List ℕ)) → IfOk result (λ tally. TellsPiece (IsFilePiece world path.now (IsBroken kind offset)) tally text text (P.taken report.old) (P.taken report.new)) }
     ensures stopped { (world : WorldOf) (text : Option (List ℕ)) → IfErr result (λ stop. StopsPiece (IsFilePiece world path.now (IsBroken kind offset)) stop text text (P.taken report.old) (P.taken report.new)) }
     ensures failed { IfErr result (λ stop. StoppedTelling stop ⊥ (Rose (P.faults report.old) (P.faults report.new)) (Unit {0})) }
     ensures report_falls { P.faults report.old ≤ P.faults report.new }
 {
     let line = broken_line(alloc, path, kind, offset)?;
     match put_piece(report, line.as_slice()) {
-        Ok(()) => Ok(true),
+        Ok(()) => Ok(line_tally(0)),
         Err(Failed) => Err(TellStop::Report),
     }
 }
 
-/// Tells the line on a file whose class clashes with those before it; that it has a line.
+/// Tells the line on a file whose class clashes with those before it.
 fn tell_clash<P: Sink>(
     alloc: Global,
     path: &str,
     kind: ClashKind,
     report: &mut P,
-) -> Result<bool, TellStop>
-    ensures told { (world : WorldOf) (text : Option (List ℕ)) → IfOk result (λ refused. TellsPiece (IsFilePiece world path.now (IsClash kind)) refused text text (P.taken report.old) (P.taken report.new)) }
+) -> Result<Tally, TellStop>
+    ensures told { (world : WorldOf) (text : Option (List ℕ)) → IfOk result (λ tally. TellsPiece (IsFilePiece world path.now (IsClash kind)) tally text text (P.taken report.old) (P.taken report.new)) }
     ensures stopped { (world : WorldOf) (text : Option (List ℕ)) → IfErr result (λ stop. StopsPiece (IsFilePiece world path.now (IsClash kind)) stop text text (P.taken report.old) (P.taken report.new)) }
     ensures failed { IfErr result (λ stop. StoppedTelling stop ⊥ (Rose (P.faults report.old) (P.faults report.new)) (Unit {0})) }
     ensures report_falls { P.faults report.old ≤ P.faults report.new }
 {
     let line = clash_line(alloc, path, kind)?;
     match put_piece(report, line.as_slice()) {
-        Ok(()) => Ok(true),
+        Ok(()) => Ok(line_tally(0)),
         Err(Failed) => Err(TellStop::Report),
     }
 }
 
-/// Tells the piece of a file of this path; whether it has a line.
+/// Tells the piece of a file of this path.
 fn tell_file<T: Sink, P: Sink>(
     alloc: Global,
     world: &World,
@@ -189,9 +197,9 @@ fn tell_file<T: Sink, P: Sink>(
     found: &Found,
     text: &mut T,
     report: &mut P,
-) -> Result<bool, TellStop>
+) -> Result<Tally, TellStop>
     requires of_file { IsOfFile (found_of found.now) }
-    ensures told { IfOk result (λ refused. TellsPiece (IsFilePiece world.now path.now (found_of found.now)) refused (T.taken text.old) (T.taken text.new) (P.taken report.old) (P.taken report.new)) }
+    ensures told { IfOk result (λ tally. TellsPiece (IsFilePiece world.now path.now (found_of found.now)) tally (T.taken text.old) (T.taken text.new) (P.taken report.old) (P.taken report.new)) }
     ensures stopped { IfErr result (λ stop. StopsPiece (IsFilePiece world.now path.now (found_of found.now)) stop (T.taken text.old) (T.taken text.new) (P.taken report.old) (P.taken report.new)) }
     ensures failed { IfErr result (λ stop. StoppedTelling stop (Rose (T.faults text.old) (T.faults text.new)) (Rose (P.faults report.old) (P.faults report.new)) (Unit {0})) }
 
@@ -206,37 +214,60 @@ fn tell_file<T: Sink, P: Sink>(
     }
 }
 
-/// Tells the piece behind those of the named files; whether it has a line.
-fn tell_last<P: Sink>(alloc: Global, files: &FoundFiles, report: &mut P) -> Result<bool, TellStop>
-    requires library { length files.now.library.items ≡ length files.now.paths.items }
-    ensures told { (text : Option (List ℕ)) → IfOk result (λ refused. TellsPiece (IsLastPiece (finds_of files.now)) refused text text (P.taken report.old) (P.taken report.new)) }
-    ensures stopped { (text : Option (List ℕ)) → IfErr result (λ stop. StopsPiece (IsLastPiece (finds_of files.now)) stop text text (P.taken report.old) (P.taken report.new)) }
-    ensures failed { IfErr result (λ stop. StoppedTelling stop ⊥ (Rose (P.faults report.old) (P.faults report.new)) (Unit {0})) }
+/// Puts bytes, where there are any.
+fn put_some<S: Sink>(sink: &mut S, bytes: &[u8]) -> Result<(), Failed>
+    ensures puts { Puts result (S.taken sink.old) (S.taken sink.new) (S.faults sink.old) (S.faults sink.new) bytes.now }
+{
+    if bytes.is_empty() {
+        return Ok(());
+    }
+    put_piece(sink, bytes)
+}
+
+/// Tells the piece behind those of the files.
+fn tell_last<T: Sink, P: Sink>(
+    piece: &LastPiece,
+    text: &mut T,
+    report: &mut P,
+) -> Result<Tally, TellStop>
+    ensures told { IfOk result (λ tally. TellsPiece (λ told. told ≡ end_piece piece.now) tally (T.taken text.old) (T.taken text.new) (P.taken report.old) (P.taken report.new)) }
+    ensures stopped { IfErr result (λ stop. StopsPiece (λ told. told ≡ end_piece piece.now) stop (T.taken text.old) (T.taken text.new) (P.taken report.old) (P.taken report.new)) }
+    ensures failed { IfErr result (λ stop. StoppedTelling stop (Rose (T.faults text.old) (T.faults text.new)) (Rose (P.faults report.old) (P.faults report.new)) (Unit {0})) }
+
+    // What the call leaves.
+    ensures text_falls { T.faults text.old ≤ T.faults text.new }
     ensures report_falls { P.faults report.old ≤ P.faults report.new }
 {
-    let lines = last_lines(alloc, files)?;
-    if lines.is_empty() {
-        return Ok(false);
+    match put_some(text, piece.text.as_slice()) {
+        Ok(()) => {}
+        Err(Failed) => return Err(TellStop::Text),
     }
-    match put_piece(report, lines.as_slice()) {
-        Ok(()) => Ok(true),
+    match put_some(report, piece.lines.as_slice()) {
+        Ok(()) => Ok(Tally {
+            has_line: !piece.lines.is_empty(),
+            printed: 0,
+            refused: 0,
+        }),
         Err(Failed) => Err(TellStop::Report),
     }
 }
 
-/// Tells the pieces of files of these names, in order, and then the last piece; whether one has a line.
+/// Tells the pieces of files of these names, which the program may have made, in order, and then the last piece;
+/// whether one has a line.
 pub fn tell_files<T: Sink, P: Sink>(
     alloc: Global,
     named: &[String],
+    made: bool,
     files: &FoundFiles,
     text: &mut T,
     report: &mut P,
 ) -> Result<bool, TellStop>
+    requires few { length named.now ≤ most_files }
     requires number { length files.now.found.items ≡ length named.now }
     requires library { length files.now.library.items ≡ length files.now.paths.items }
     requires of_files { All (λ found. IsOfFile (found_of found)) files.now.found.items }
-    ensures told { IfOk result (λ refused. ToldAll refused (T.taken text.old) (T.taken text.new) (P.taken report.old) (P.taken report.new) (map string_bytes named.now) (finds_of files.now) files.now.world) }
-    ensures stopped { IfErr result (λ stop. StoppedTelling stop (ToldFront InText (T.taken text.old) (T.taken text.new) (P.taken report.old) (P.taken report.new) (map string_bytes named.now) (finds_of files.now) files.now.world) (ToldFront InLines (T.taken text.old) (T.taken text.new) (P.taken report.old) (P.taken report.new) (map string_bytes named.now) (finds_of files.now) files.now.world) (ToldSome (T.taken text.old) (T.taken text.new) (P.taken report.old) (P.taken report.new) (map string_bytes named.now) (finds_of files.now) files.now.world)) }
+    ensures told { IfOk result (λ refused. ToldAll refused (T.taken text.old) (T.taken text.new) (P.taken report.old) (P.taken report.new) (source_of named.now made) (finds_of files.now) files.now.world) }
+    ensures stopped { IfErr result (λ stop. StoppedTelling stop (ToldFront InText (T.taken text.old) (T.taken text.new) (P.taken report.old) (P.taken report.new) (source_of named.now made) (finds_of files.now) files.now.world) (ToldFront InLines (T.taken text.old) (T.taken text.new) (P.taken report.old) (P.taken report.new) (source_of named.now made) (finds_of files.now) files.now.world) (ToldSome (T.taken text.old) (T.taken text.new) (P.taken report.old) (P.taken report.new) (source_of named.now made) (finds_of files.now) files.now.world)) }
     ensures failed { IfErr result (λ stop. StoppedTelling stop (Rose (T.faults text.old) (T.faults text.new)) (Rose (P.faults report.old) (P.faults report.new)) (Unit {0})) }
 
     // What the call leaves.
@@ -244,7 +275,7 @@ pub fn tell_files<T: Sink, P: Sink>(
     ensures report_falls { P.faults report.old ≤ P.faults report.new }
 {
     let found = files.found.as_slice();
-    let mut refused = false;
+    let mut tally = no_tally();
     for place in 0..named.len() {
         let one = tell_file(
             alloc,
@@ -254,8 +285,9 @@ pub fn tell_files<T: Sink, P: Sink>(
             text,
             report,
         )?;
-        refused |= one;
+        tally = both(tally, one);
     }
-    let last = tell_last(alloc, files, report)?;
-    Ok(refused | last)
+    let last = last_piece(alloc, named.len(), made, tally, files)?;
+    let end = tell_last(&last, text, report)?;
+    Ok(tally.has_line | end.has_line)
 }

@@ -1,6 +1,6 @@
 use Rattle.std.proofs.Common.{◌≡◌, ◌<◌, Some, None, length, map, take, arith}
 use Rattle.std.specs.Prelude.{option_map}
-use Rattle.std.proofs.lemmas.List.{length-map, length-take-le, map_push}
+use Rattle.std.proofs.lemmas.List.{length-map, length-take-le, length_push, map_push}
 use Rattle.dj_class.specs.Views.{view_class, view_method}
 use Rattle.dj_syntax.specs.Trees.{view_body}
 use Rattle.dj_cli.specs.Lines.{ending_bytes, lines_bytes}
@@ -33,12 +33,12 @@ loop-at-preserved c =
       judged = elim c.match-branch-2.branch [
         | in-Body+in_ok-push-in-Body w ↦
             rw (more, w.bodies-is, w.in_ok-push-in-Body.ensures.ok, map_push (option_map view_body) c.loop-at.bodies (Some w.in-Body.body), w.lines-is)
-            (judged_body world class front method bodies lines before.judged (view_body w.in-Body.body) (rw w.in-Body.is at told))
+            (judged_body world class front method bodies lines (length c.loop-at.lines.items) before.judged (view_body w.in-Body.body) (rw w.in-Body.is at told))
         | in-Bare+in_ok-push-in-Bare w ↦
             rw (more, w.bodies-is, w.in_ok-push-in-Bare.ensures.ok, map_push (option_map view_body) c.loop-at.bodies None, w.lines-is)
-            (judged_bare world class front method bodies lines before.judged (rw w.in-Bare.is at told))
+            (judged_bare world class front method bodies lines (length c.loop-at.lines.items) before.judged (rw w.in-Bare.is at told))
         | in-Line+in_ok-push-in-Line+in_ok-push-in-Line-2 w ↦
-            rw (more, w.bodies-is, w.in_ok-push-in-Line-2.ensures.ok, map_push (option_map view_body) c.loop-at.bodies None, w.lines-is, w.in_ok-push-in-Line.ensures.items, lines_bytes-push)
-            (judged_line world class front method bodies lines before.judged (ending_bytes w.in-Line.ending) (rw w.in-Line.is at told))
+            rw (more, w.bodies-is, w.in_ok-push-in-Line-2.ensures.ok, map_push (option_map view_body) c.loop-at.bodies None, w.lines-is, w.in_ok-push-in-Line.ensures.items, lines_bytes-push, length_push)
+            (judged_line world class front method bodies lines (length c.loop-at.lines.items) before.judged (ending_bytes w.in-Line.ending) (rw w.in-Line.is at told))
       ];
     }

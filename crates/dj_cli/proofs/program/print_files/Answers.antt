@@ -1,4 +1,4 @@
-use Rattle.std.proofs.Common.{true, false, refl, ◌∙◌, inl, inr}
+use Rattle.std.proofs.Common.{true, false, arith, refl, ◌∙◌, inl, inr}
 use Rattle.std.specs.Prelude.{⊤}
 use Rattle.std.proofs.lemmas.List.Elements.{All-from_recursion}
 use Rattle.dj_report.specs.declared.status.Status.TheVariants.{ReadFault, TooMuch}
@@ -17,6 +17,7 @@ tell-requires g c =
     let found = c.in_ok-found-in-Ok.found.found.items in
     let makes = c.in_ok-found-in-Ok.ensures.read in
     record {
+      few = omega (arith, c.in-Ok.ensures.number, c.in-Ok.ensures.few);
       number = c.in_ok-found-in-Ok.ensures.number ∙ c.in-Ok.ensures.number;
       library = c.in_ok-found-in-Ok.ensures.library ∙ c.in-Ok.ensures.library ∙ as_many_paths c.in_ok-found-in-Ok.found.paths.items c.in-Ok.contents.library.paths.items c.in_ok-found-in-Ok.ensures.paths;
       of_files = All-from_recursion (λ one. IsOfFile (found_of one)) found (classes_of_files oldest_named no_classes makes.of_named (contents_of c.in-Ok.contents.named.items) found makes.named);

@@ -11,10 +11,10 @@ returns-in-Ok-clause-told g c = λ world text.
     let path = c.args.path.now in
     let kind = c.args.kind in
     let some = back-some (show_units (path_units path) ++ codes " clash " ++ clash_text kind) 10 [] in
-    tells-line (IsFilePiece world path (IsClash kind)) (line_text (Clash path kind)) (refl, refl) text some (rw (c.as_slice.ensures.value, c.in_ok-line.ensures.line) at c.in-Ok.ensures.puts)
+    tells-line (IsFilePiece world path (IsClash kind)) (line_text (Clash path kind)) 0 refl text c.line_tally.ensures.tally some (rw (c.as_slice.ensures.value, c.in_ok-line.ensures.line) at c.in-Ok.ensures.puts)
 
 pub returns-clause-stopped : goal.returns-clause-stopped
 returns-clause-stopped g c = λ world text.
     let path = c.args.path.now in
     let kind = c.args.kind in
-    cuts-line (IsFilePiece world path (IsClash kind)) (line_text (Clash path kind)) (refl, refl) text (rw (c.as_slice.ensures.value, c.in_ok-line.ensures.line) at c.in-Err.ensures.puts)
+    cuts-line (IsFilePiece world path (IsClash kind)) (line_text (Clash path kind)) 0 refl text (rw (c.as_slice.ensures.value, c.in_ok-line.ensures.line) at c.in-Err.ensures.puts)

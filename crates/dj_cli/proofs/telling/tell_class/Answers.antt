@@ -1,6 +1,7 @@
-use Rattle.std.proofs.Common.{◌≡◌}
+use Rattle.std.proofs.Common.{◌≡◌, ◌∙◌, length, sym}
 use Rattle.std.proofs.lemmas.Result.{IfOk-weaker, IfErr-weaker}
-use Rattle.dj_class.specs.Views.{view_class}
+use Rattle.std.proofs.lemmas.List.{length-map}
+use Rattle.dj_class.specs.Views.{view_class, view_method}
 use Rattle.dj_cli.specs.Output.{IsClassPiece}
 use Rattle.dj_cli.specs.Pieces.{piece_of, refused_piece}
 use Rattle.dj_cli.proofs.TellingLemmas.{tells-as, stops-as, is_printed, is_refused}
@@ -28,7 +29,9 @@ returns-in-Refused-clause-told g c =
     let class = view_class c.args.class.now in
     let cause = c.in-Refused.cause in
     let first = rw c.in-Refused.is at c.in_ok-piece.ensures.told in
-    IfOk-weaker c.tell_refused.result _ _ (tells-as (λ told. told ≡ refused_piece class.this_class cause) (IsClassPiece world class) (is_refused world class cause first) _ _ _ _) (c.tell_refused.ensures.told (g.T.Sink.taken c.args.text.now))
+    let methods = c.len-methods.result in
+    let number : methods ≡ length class.methods = c.len-methods.ensures ∙ sym (length-map c.args.class.now.methods view_method) in
+    IfOk-weaker c.tell_refused.result _ _ (tells-as (λ told. told ≡ refused_piece class.this_class cause methods) (IsClassPiece world class) (is_refused world class cause methods first number) _ _ _ _) (c.tell_refused.ensures.told (g.T.Sink.taken c.args.text.now))
 
 pub returns-in-Refused-clause-stopped : goal.returns-in-Refused-clause-stopped
 returns-in-Refused-clause-stopped g c =
@@ -36,4 +39,6 @@ returns-in-Refused-clause-stopped g c =
     let class = view_class c.args.class.now in
     let cause = c.in-Refused.cause in
     let first = rw c.in-Refused.is at c.in_ok-piece.ensures.told in
-    IfErr-weaker c.tell_refused.result _ _ (stops-as (λ told. told ≡ refused_piece class.this_class cause) (IsClassPiece world class) (is_refused world class cause first) _ _ _ _) (c.tell_refused.ensures.stopped (g.T.Sink.taken c.args.text.now))
+    let methods = c.len-methods.result in
+    let number : methods ≡ length class.methods = c.len-methods.ensures ∙ sym (length-map c.args.class.now.methods view_method) in
+    IfErr-weaker c.tell_refused.result _ _ (stops-as (λ told. told ≡ refused_piece class.this_class cause methods) (IsClassPiece world class) (is_refused world class cause methods first number) _ _ _ _) (c.tell_refused.ensures.stopped (g.T.Sink.taken c.args.text.now))

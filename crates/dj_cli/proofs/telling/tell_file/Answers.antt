@@ -1,7 +1,7 @@
 use Rattle.dj_cli.proofs.telling.tell_file.Goals as goal
 
 pub tell_class-requires : goal.tell_class-requires
-tell_class-requires g c = record { of_file = rw c.in-Class.is at c.requires.of_file }
+tell_class-requires g c = record { of_file = (rw c.in-Class.is at c.requires.of_file).of_file }
 
 pub returns-in-Class-clause-told : goal.returns-in-Class-clause-told
 returns-in-Class-clause-told g c = rw c.in-Class.is c.tell_class.ensures.told

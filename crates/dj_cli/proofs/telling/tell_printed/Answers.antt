@@ -1,4 +1,4 @@
-use Rattle.std.proofs.Common.{[], take, refl}
+use Rattle.std.proofs.Common.{◌∙◌, [], take, refl}
 use Rattle.dj_outer.proofs.PutsLemmas.{known-nothing}
 use Rattle.dj_cli.specs.Pieces.{piece_of}
 use Rattle.dj_cli.proofs.telling.tell_printed.Goals as goal
@@ -9,7 +9,9 @@ returns-clause-told g c = record {
   is = refl;
   text_taken = c.in_default.ensures.puts.ok;
   report_taken = c.in_default-put_report.ensures.puts.ok;
-  refused_is = c.has_line.ensures.line c.args.class.now;
+  has_line_is = c.has_line.ensures.line c.args.class.now;
+  printed_is = refl;
+  refused_is = c.len.ensures ∙ c.args.piece.now.methods.ok.0;
 }
 
 pub returns-in-Err-clause-stopped : goal.returns-in-Err-clause-stopped
