@@ -1,11 +1,10 @@
 -- What the check of a body answers: how the body ends is a rule at place 0, and its statements have theirs.
-use Rattle.std.proofs.Common.{◌≡◌, ℕ, Bool, true, false, List, Option, Some, None, refl, sym, ap, ◌∙◌, inl, arith}
+use Rattle.std.proofs.Common.{◌≡◌, ℕ, true, false, List, Some, None, refl, sym, ap, ◌∙◌, inl, arith}
 use Rattle.dj_names.specs.declared.header.Header.{Header}
 use Rattle.dj_names.specs.declared.members.ClassMembers.{ClassMembers}
 use Rattle.dj_syntax.specs.Trees.{Body, Stms}
-use Rattle.dj_places.specs.Rules.{Rules, Rule, ◌and◌, Holds, IsFirstBroken}
+use Rattle.dj_places.specs.Rules.{Holds, IsFirstBroken}
 use Rattle.dj_places.specs.Places.{told, lower, broken_at, first_broken}
-use Rattle.dj_places.specs.Surroundings.{around_body}
 use Rattle.dj_places.specs.declared.kind.TypeKind.TheVariants.{Reach}
 use Rattle.dj_places.proofs.RuleLemmas.{none_broken, first_is}
 use Rattle.dj_reach.specs.declared.walk.Walk.{Walk}

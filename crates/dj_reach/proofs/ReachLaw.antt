@@ -15,7 +15,7 @@ use Rattle.dj_reach.specs.declared.jump.Jump.TheVariants.{Break, Continue}
 use Rattle.dj_reach.specs.declared.walk.Walk.{Walk}
 use Rattle.dj_reach.specs.Jumps.{is_same_jump, is_jump_to, is_one_of}
 use Rattle.dj_reach.specs.Reach.{Site, of_own, are_in_order, completes, list_completes, catches_complete, groups_complete, leaves, list_leaves, catches_leave, groups_leave, stm_reach, list_reach, catches_reach, groups_reach}
-use Rattle.dj_reach.specs.Walks.{skip, step, skip_exp, note, with_alive, with_jumps, either, others, end_label, begin_loop, end_loop, end_do, leave_by, begin_last, end_last, pass, pass_list, pass_groups, pass_catches, opening}
+use Rattle.dj_reach.specs.Walks.{step, skip_exp, note, with_alive, with_jumps, either, others, end_label, begin_loop, end_do, leave_by, begin_last, end_last, pass, pass_list, pass_groups, pass_catches, opening}
 use Rattle.dj_reach.proofs.Truths.{and_or, and_false, and_true, or_false, or_last, or_all, or_join, or_then, and_all, and_both, and_or_also, label_jumps, stopped_jumps, no_jumps}
 use Rattle.dj_reach.proofs.JumpLemmas.{one_of-append, one_of-others, one_of-here}
 

@@ -1,5 +1,5 @@
 -- Jumps: a break or a continue, with the label that it names (JLS 14.15, 14.16).
-use Rattle.std.specs.Prelude.{ℕ, Bool, true, false, ◌||◌, ◌==◌, List, [], ◌∷◌}
+use Rattle.std.specs.Prelude.{ℕ, Bool, false, ◌||◌, ◌==◌, List, [], ◌∷◌}
 use Rattle.dj_reach.specs.declared.jump.Jump.{Jump}
 use Rattle.dj_reach.specs.declared.jump.Jump.TheVariants.{Break, Continue}
 

@@ -6,7 +6,7 @@ use Rattle.dj_syntax.specs.Trees.{Exp, Exps, Stm, Block, Labelled, Declare, Set,
 use Rattle.dj_syntax.specs.Trees as trees
 use Rattle.dj_syntax.specs.Weight.{weight_of_exp, weight_of_exps, weight_of_value}
 use Rattle.dj_meaning.specs.Statements.{is_labelled}
-use Rattle.dj_places.specs.Constants.{Surroundings, constant_truth, is_always}
+use Rattle.dj_places.specs.Constants.{constant_truth, is_always}
 use Rattle.dj_places.specs.Places.{told, lower}
 use Rattle.dj_places.specs.Surroundings.{surroundings_of}
 use Rattle.dj_reach.specs.declared.jump.Jump.{Jump}
