@@ -1,0 +1,5 @@
+mod Truths
+pub mod JumpLemmas
+mod ReachLaw
+mod CheckLemmas
+mod Examples
