@@ -1,0 +1,4 @@
+pub mod Binding
+pub mod TypesAlike
+pub mod RunLemmas
+pub mod IntLemmas

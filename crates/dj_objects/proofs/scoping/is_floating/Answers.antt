@@ -1,0 +1,9 @@
+use Rattle.dj_syntax.specs.Trees.{view_exp}
+use Rattle.dj_static.specs.Scopes.{scope_of}
+use Rattle.dj_objects.proofs.TypesAlike.{type_alike}
+use Rattle.dj_objects.proofs.scoping.is_floating.Goals as goal
+
+pub returns : goal.returns
+returns c = record {
+  floating = rw (← type_alike c.args.method.now (scope_of c.args.scope.now) (view_exp c.args.left.now), ← type_alike c.args.method.now (scope_of c.args.scope.now) (view_exp c.args.right.now)) c.is_floating_pair.ensures.floating;
+}
