@@ -262,10 +262,11 @@ library_lines (path ∷ paths) (file ∷ found) = library_line path file ++ libr
 abbrev pub last_lines : Finds → List ℕ
 last_lines found = unread_line found.unread ++ library_lines found.paths found.library
 
--- how many methods are printed, by pieces, and how many aren't
+-- how many methods are printed, by pieces
 abbrev pub printed_of : List Piece → ℕ
 printed_of pieces = sum_by (λ (piece : Piece). piece.printed) pieces
 
+-- how many aren't
 abbrev pub refused_of : List Piece → ℕ
 refused_of pieces = sum_by (λ (piece : Piece). piece.refused) pieces
 
