@@ -1,4 +1,4 @@
-//! The program over files and sinks in memory: runs that a sink ends.
+//! The program over files and sinks in memory: runs that a sink ends, and one that loads no file.
 
 use dj_cli::{Status, run};
 use dj_outer::{MemoryFiles, MemorySink};
@@ -29,10 +29,13 @@ struct Ended {
     report: MemorySink,
 }
 
-fn words(alloc: Global) -> Result<Vec<String>, AllocError> {
+/// The words of a command line, behind the program's name.
+fn words(alloc: Global, given: &[&str]) -> Result<Vec<String>, AllocError> {
     let mut words = Vec::new(alloc);
     words.push(String::from_str(alloc, "decompile")?)?;
-    words.push(String::from_str(alloc, "C.class")?)?;
+    for word in given {
+        words.push(String::from_str(alloc, word)?)?;
+    }
     Ok(words)
 }
 
@@ -52,15 +55,16 @@ fn sink(alloc: Global, failing: &[u64]) -> Result<MemorySink, AllocError> {
     MemorySink::new(alloc, 1000, Vec::from_slice(alloc, failing)?)
 }
 
-/// Runs the program on the class. The text and the report fail at the calls that are listed.
-fn run_on_class(
+/// Runs the program on these words beside the class. The text and the report fail at the calls that are listed.
+fn run_on(
     alloc: Global,
+    given: &[&str],
     text_fails: &[u64],
     report_fails: &[u64],
 ) -> Result<Ended, AllocError> {
     let mut text = sink(alloc, text_fails)?;
     let mut report = sink(alloc, report_fails)?;
-    let status = run_into(alloc, &mut text, &mut report)?;
+    let status = run_into(alloc, given, &mut text, &mut report)?;
     Ok(Ended {
         status,
         text,
@@ -70,10 +74,11 @@ fn run_on_class(
 
 fn run_into(
     alloc: Global,
+    given: &[&str],
     text: &mut MemorySink,
     report: &mut MemorySink,
 ) -> Result<Status, AllocError> {
-    let words = words(alloc)?;
+    let words = words(alloc, given)?;
     let mut files = files(alloc)?;
     run(alloc, words.as_slice(), &mut files, text, report)
 }
@@ -92,9 +97,19 @@ fn difference(ended: &Ended, status: Status, text: &str, report: &str) -> &'stat
     "none"
 }
 
+/// The texts of the first two classes that the program makes.
+fn two_classes() -> &'static str {
+    "// g/C0.java\npackage g;\npublic class C0 {\n    public static int m0(int p0, int p1) {\n        return (p0 + 0) * p1;\n    }\n}\n// g/C1.java\npackage g;\npublic class C1 {\n    public static int m0(int p0, int p1) {\n        return ((p0 + 1) + 8) * p1;\n    }\n}\n"
+}
+
+/// The lines on their methods that aren't straight.
+fn four_methods() -> &'static str {
+    "g/C0.m1(II)I notyet 0\ng/C0.m2(II)I notyet 0\ng/C1.m1(II)I notyet 0\ng/C1.m2(II)I notyet 0\n"
+}
+
 #[test]
 fn a_text_that_fails_at_its_second_call_holds_one_line(rt: HostRuntime) -> Result<(), Fail> {
-    let ended = run_on_class(rt.alloc(), &[1], &[])?;
+    let ended = run_on(rt.alloc(), &["C.class"], &[1], &[])?;
     let other = difference(&ended, Status::TextFault, "// C.java\n", "");
     assert_eq!(rt; other, "none");
     Ok(())
@@ -102,9 +117,27 @@ fn a_text_that_fails_at_its_second_call_holds_one_line(rt: HostRuntime) -> Resul
 
 #[test]
 fn a_report_that_fails_leaves_the_text_whole(rt: HostRuntime) -> Result<(), Fail> {
-    let ended = run_on_class(rt.alloc(), &[], &[0])?;
+    let ended = run_on(rt.alloc(), &["C.class"], &[], &[0])?;
     let text = "// C.java\npublic class C {\n}\n";
     let other = difference(&ended, Status::ReportFault, text, "");
+    assert_eq!(rt; other, "none");
+    Ok(())
+}
+
+#[test]
+fn made_classes_end_with_a_count_of_their_methods(rt: HostRuntime) -> Result<(), Fail> {
+    let alloc = rt.alloc();
+    let ended = run_on(alloc, &["--make", "2"], &[], &[])?;
+    let text = format!(in alloc; "{}// made 2 printed 2 refused 4\n", two_classes())?;
+    let other = difference(&ended, Status::Refused, text.as_str(), four_methods());
+    assert_eq!(rt; other, "none");
+    Ok(())
+}
+
+#[test]
+fn a_text_that_fails_at_that_count_holds_the_classes(rt: HostRuntime) -> Result<(), Fail> {
+    let ended = run_on(rt.alloc(), &["--make", "2"], &[4], &[])?;
+    let other = difference(&ended, Status::TextFault, two_classes(), four_methods());
     assert_eq!(rt; other, "none");
     Ok(())
 }
