@@ -200,6 +200,20 @@ def another_name(case):
     return [opened.file()]
 
 
+def legal_names(case):
+    """Names that methods may have in place of those of the pool that none may have; where there are none, another name of the method's own."""
+    opened = case.opened()
+    named = [parts[0] for tag, parts in opened.pool.values() if tag == NAME_AND_TYPE]
+    wrong = [place for place, name in named if set(text(opened.pool, name)) & set(".;[/<>") and text(opened.pool, name) not in ("<init>", "<clinit>")]
+    if not wrong:
+        return another_name(case)
+    entries, legal = bytearray(opened.entries_of_pool), opened.add_text("m$")
+    for place in wrong:
+        struct.pack_into(">H", entries, place - 10, legal)
+    opened.entries_of_pool = bytes(entries)
+    return [opened.file()]
+
+
 def version_52(case):
     return [case.data[:7] + b"\x34" + case.data[8:]]
 
@@ -222,7 +236,7 @@ PARSER = [
     (r"Field .* has illegal signature", IN_CODE, without_attributes),
     (r"has illegal signature|<clinit> is not static", "the descriptor and the flags of <init> and <clinit> (JVMS 4.6)", another_name),
     (r"illegal modifiers|Illegal (field|method|class) modifiers", "flags beyond those that are asked here (JVMS 4.1, 4.5, 4.6)", right_flags),
-    (r"Illegal (method) name|Bad method name", "the spelling of a method's name (JVMS 4.2.2)", another_name),
+    (r"Illegal (method) name|Bad method name", "the spelling of a method's name, its own or one in the pool (JVMS 4.2.2)", legal_names),
     (r"Illegal (field|class) name|Bad field name|Bad name", "the spelling of a field's or a class's name (JVMS 4.2.2)", nothing),
     (r"Duplicate (field|method|interface)", "two members or interfaces alike (JVMS 4.5, 4.6, 4.1)", nothing),
     (r"LineNumberTable|LocalVariable|local variable table|code attribute name", IN_CODE, without_attributes),

@@ -1,14 +1,20 @@
 //! Bounded runs (JVMS 2.6).
 
-ghost use Rattle.std.specs.Prelude.{◌≡◌, IfOk, map, option_map, Option};
+ghost use Rattle.std.specs.Prelude.{◌≡◌, ◌≢◌, List, [], IfOk, map, option_map, Option};
+ghost use Rattle.dj_names.specs.declared.header.Header.{Header};
 ghost use Rattle.dj_values.specs.Values as values;
 ghost use Rattle.dj_values.specs.Views.{view_value, view_values, view_action, view_answer, view_end, view_show};
 ghost use Rattle.dj_values.specs.Outcomes as outcomes;
 ghost use Rattle.dj_values.specs.Outcomes.{shown};
 ghost use Rattle.dj_instructions.specs.Instructions.{view_instructions};
-ghost use Rattle.dj_code.specs.MethodCode.{view_code};
+ghost use Rattle.dj_code.specs.MethodCode.{view_code, view_typed};
 ghost use Rattle.dj_bytecode.specs.Machine as machine;
 ghost use Rattle.dj_bytecode.specs.Machine.{local_slots, bytecode_show};
+ghost use Rattle.dj_bytecode.specs.SameShows.{AreArgumentsOf};
+ghost use Rattle.dj_tags.specs.Laxly.{Laxly};
+ghost use Rattle.dj_verify.specs.Verified.{IsTyped};
+ghost use Rattle.dj_sound.specs.Runs as sound;
+ghost use Rattle.dj_sound.specs.Runs.{IsStuck};
 ghost use Rattle.dj_operands.specs.Stacks.{stacked};
 ghost use Rattle.dj_outside.specs.Runs.{Ends};
 ghost use Rattle.dj_machine.specs.Runs.{run_state, IsReady};
@@ -58,6 +64,10 @@ fn end_of(outcome: Result<Option<Value>, Stop>) -> Result<End, AllocError>
 /// What at most so many instructions of a method show, by these headers, with these arguments, `this`
 /// first where it has one, and these answers. An action whose answer is missing or can't be is shown,
 /// and the run goes on from there.
+///
+/// The run that is shown is never stuck, from arguments that fit: neither lacks an instruction of it an
+/// operand nor meets it one of a wrong kind, if the method's code has an instruction and its frames are
+/// a table of it, over headers of any classes, those that run or others (JVMS 2.11.1, 4.10).
 pub fn show_code(
     alloc: Global,
     headers: &Headers,
@@ -67,6 +77,9 @@ pub fn show_code(
     steps: u64,
 ) -> Result<Show, AllocError>
     ensures show { IfOk result (λ show. view_show show ≡ bytecode_show headers.now (view_code typed.now.code) (view_values arguments.now) (map view_answer answers.now) steps) }
+    ensures never { (world : List Header) → view_instructions typed.now.code.instructions ≢ [] → IsTyped (Laxly world) world (view_typed typed.now)
+        → AreArgumentsOf headers.now (view_code typed.now.code) (view_values arguments.now)
+        → ¬ IsStuck (sound.run headers.now (view_code typed.now.code) (view_values arguments.now) (map view_answer answers.now) steps) }
 {
     let starts = Starts::new(alloc, typed.code.instructions.as_slice())?;
     let locals = Locals::new(alloc, typed.code.max_locals, arguments)?;

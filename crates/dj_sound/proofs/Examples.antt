@@ -1,14 +1,21 @@
 -- Worked runs of untyped code: that they are stuck is what the law rules out (JVMS 4.10.1.6, 6.5).
-use Rattle.std.proofs.Common.{false, List, [], ◌∷◌, Option, Some, None, codes}
+use Rattle.std.proofs.Common.{◌≡◌, ℕ, false, List, [], ◌∷◌, Option, Some, None, codes, refl}
 use Rattle.std.specs.Prelude.{pos}
+use Rattle.dj_names.specs.declared.header.Header.{Header}
 use Rattle.dj_names.specs.Types as types
 use Rattle.dj_names.specs.Types.{JType, Method}
 use Rattle.dj_names.specs.declared.members.Constant.TheVariants as constant
-use Rattle.dj_values.specs.Values.{Long}
+use Rattle.dj_values.specs.Values.{Value, Answer, Long}
+use Rattle.dj_values.specs.Outcomes.{shown}
 use Rattle.dj_instructions.specs.declared.kinds.Kind.TheVariants.{Int as AnInt}
 use Rattle.dj_instructions.specs.Instructions.{Instructions, Push, Load, Pop, Goto, Return}
 use Rattle.dj_code.specs.MethodCode.{Code}
+use Rattle.dj_bytecode.specs.Machine.{bytecode_show}
 use Rattle.dj_sound.specs.Runs.{run, IsStuck}
+
+-- what a run comes to is what the machine shows
+the_run_is_shown : (headers : List Header) (code : Code) (arguments : List Value) (answers : List Answer) (bound : ℕ) → shown (run headers code arguments answers bound) ≡ bytecode_show headers code arguments answers bound
+the_run_is_shown headers code arguments answers bound = refl
 
 -- code of a static method of class C, with these parameters and this result, two locals and a stack of two words
 abbrev code : List JType → Option JType → Instructions → Code
