@@ -7,20 +7,46 @@ mod loaded;
 
 use crate::loaded::Loaded;
 use anyhow::Result;
+use dj_code::Typed;
+use dj_headers::Headers;
 use dj_machine::show_code;
+use dj_values::Show;
 use run_lines::{Asked, ShowText};
 use std::alloc::Global;
 use std::io;
 use std::io::{BufRead, BufReader, BufWriter, Write};
 
-/// What the run that is asked for shows.
-fn put_show<W: Write>(alloc: Global, loaded: &Loaded, asked: &Asked, out: &mut W) -> Result<()> {
-    match loaded.method(asked.place) {
+/// What is loaded, and the run that is asked for.
+#[derive(Drop)]
+struct Session {
+    loaded: Loaded,
+    asked: Asked,
+}
+
+impl Session {
+    /// No class, and a run that goes nowhere.
+    fn new(alloc: Global) -> Session {
+        Session {
+            loaded: Loaded::new(alloc),
+            asked: Asked::new(alloc),
+        }
+    }
+}
+
+/// What the run that is asked for shows, of this code.
+fn show_of(alloc: Global, headers: &Headers, typed: &Typed, asked: &Asked) -> Result<Show> {
+    let arguments = asked.arguments.as_slice();
+    let answers = asked.answers.as_slice();
+    let show = show_code(alloc, headers, typed, arguments, answers, asked.bound)?;
+    Ok(show)
+}
+
+/// Tells what the run that is asked for shows.
+fn put_show<W: Write>(alloc: Global, session: &Session, out: &mut W) -> Result<()> {
+    match session.loaded.method(session.asked.place) {
         Some(typed) => {
-            let arguments = asked.arguments.as_slice();
-            let answers = asked.answers.as_slice();
-            let headers = loaded.world.headers();
-            let show = show_code(alloc, headers, typed, arguments, answers, asked.bound)?;
+            let headers = session.loaded.world.headers();
+            let show = show_of(alloc, headers, typed, &session.asked)?;
             writeln!(out, "{}", ShowText(&show))?;
         }
         None => writeln!(out, "absent")?,
@@ -38,20 +64,19 @@ fn ask(alloc: Global, asked: &mut Asked, words: &str) -> Result<()> {
 /// Answers a line.
 fn put_answer<W: Write>(
     alloc: Global,
-    loaded: &mut Loaded,
-    asked: &mut Asked,
+    session: &mut Session,
     out: &mut W,
     line: &str,
 ) -> Result<()> {
     match line.split_once(' ') {
-        Some(("class", digits)) => loaded.add(alloc, out, digits),
+        Some(("class", digits)) => session.loaded.add(alloc, out, digits),
         Some(("run", words)) => {
-            ask(alloc, asked, words)?;
-            put_show(alloc, loaded, asked, out)
+            ask(alloc, &mut session.asked, words)?;
+            put_show(alloc, session, out)
         }
         Some(("more", answers)) => {
-            asked.add(alloc, answers)?;
-            put_show(alloc, loaded, asked, out)
+            session.asked.add(alloc, answers)?;
+            put_show(alloc, session, out)
         }
         _ => {
             writeln!(out, "unknown")?;
@@ -60,16 +85,21 @@ fn put_answer<W: Write>(
     }
 }
 
+/// Answers a line, at once.
+fn answer<W: Write>(alloc: Global, session: &mut Session, out: &mut W, line: &str) -> Result<()> {
+    put_answer(alloc, session, out, line)?;
+    out.flush()?;
+    Ok(())
+}
+
 /// Answers each line of the input.
 fn main(rt: HostRuntime) -> Result<()> {
     let alloc = rt.alloc();
     let mut out = BufWriter::new(alloc, io::writer(&rt))?;
     let lines = BufReader::new(alloc, rt.reader())?.lines(alloc);
-    let mut loaded = Loaded::new(alloc);
-    let mut asked = Asked::new(alloc);
+    let mut session = Session::new(alloc);
     for line in lines {
-        put_answer(alloc, &mut loaded, &mut asked, &mut out, line?.as_str())?;
-        out.flush()?;
+        answer(alloc, &mut session, &mut out, line?.as_str())?;
     }
     Ok(())
 }
