@@ -190,6 +190,13 @@ def right_flags(case):
     return [opened.file()]
 
 
+def right_class_flags(case):
+    """Flags that the class may have; where they are its InnerClasses', no attribute that is passed over."""
+    told = re.search(r"0x([0-9a-f]+)", case.theirs)
+    others = told and int(told[1], 16) & ~case.opened().head[0]
+    return without_attributes(case) if others else right_flags(case)
+
+
 def another_name(case):
     """A name that each method may have, where it isn't a constructor with an object."""
     opened = case.opened()
@@ -235,11 +242,12 @@ PARSER = [
     (r"[Bb]ootstrap|argument_index", "BootstrapMethods, which are passed over here (JVMS 4.7.23)", nothing),
     (r"Field .* has illegal signature", IN_CODE, without_attributes),
     (r"has illegal signature|<clinit> is not static", "the descriptor and the flags of <init> and <clinit> (JVMS 4.6)", another_name),
-    (r"illegal modifiers|Illegal (field|method|class) modifiers", "flags beyond those that are asked here (JVMS 4.1, 4.5, 4.6)", right_flags),
+    (r"Illegal class modifiers", "a class's flags beyond those that are asked here, its own or in InnerClasses (JVMS 4.1, 4.7.6)", right_class_flags),
+    (r"illegal modifiers|Illegal (field|method) modifiers", "flags beyond those that are asked here (JVMS 4.1, 4.5, 4.6)", right_flags),
     (r"Illegal (method) name|Bad method name", "the spelling of a method's name, its own or one in the pool (JVMS 4.2.2)", legal_names),
     (r"Illegal (field|class) name|Bad field name|Bad name", "the spelling of a field's or a class's name (JVMS 4.2.2)", nothing),
     (r"Duplicate (field|method|interface)", "two members or interfaces alike (JVMS 4.5, 4.6, 4.1)", nothing),
-    (r"LineNumberTable|LocalVariable|local variable table|code attribute name", IN_CODE, without_attributes),
+    (r"LineNumberTable|LocalVariable|local variable table|LVTT? entry|code attribute name", IN_CODE, without_attributes),
     (r"InnerClasses|inner_class|outer_class|inner_name|EnclosingMethod|SourceFile|Signature|Annotation|MethodParameters|Wrong size|attribute length|Truncated class file", "an attribute that is passed over here (JVMS 4.7)", without_attributes),
     (r"method handle|reference_kind", "what a MethodHandle refers to (JVMS 4.4.8)", nothing),
     (r"does not support constant tag", "kinds of entry that came with version 51 (JVMS 4.4)", version_52),
