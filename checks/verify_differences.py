@@ -30,14 +30,14 @@ class Made:
             last = at
         return made
 
-    def file(self, code, stack=2, local=2, entries=(), frames=None, attribute=None):
+    def file(self, code, stack=2, local=2, entries=(), frames=None, attribute=None, class_flags=0x21):
         """The file, with these frames, or with an attribute of the Code told by its name and content."""
         pool, (name, content_of) = self.pool, ("StackMapTable", self.table(frames)) if frames else attribute or ("", None)
         content = struct.pack(">HHI", stack, local, len(code)) + code + struct.pack(">H", len(entries))
         content += b"".join(struct.pack(">HHHH", *entry) for entry in entries)
         content += b"\0\0" if content_of is None else struct.pack(">HHI", 1, pool.text(name), len(content_of)) + content_of
         above, faces = ABOVE[self.this]
-        body = struct.pack(">HHHH", 0x21, pool.type(self.this), pool.type(above), len(faces))
+        body = struct.pack(">HHHH", class_flags, pool.type(self.this), pool.type(above), len(faces))
         body += b"".join(struct.pack(">H", pool.type(face)) for face in faces) + struct.pack(">HH", 0, 1)
         body += struct.pack(">HHHHHI", self.flags, pool.text(self.name), pool.text(self.descriptor), 1, pool.text("Code"), len(content)) + content + b"\0\0"
         return b"\xca\xfe\xba\xbe\0\0\0" + bytes([self.version]) + struct.pack(">H", pool.size) + b"".join(pool.entries) + body
@@ -51,6 +51,7 @@ def named(words):
 
 def class_files():
     yield named("flags beyond"), Made("<init>", flags=9).file(b"\xb1")
+    yield named("in InnerClasses"), Made().file(b"\xb1", class_flags=0x2021)
     yield named("of <init> and <clinit>"), Made("<clinit>", flags=1).file(b"\xb1")
     yield named("of a method's name"), Made("a;b").file(b"\xb1")
     yield named("attribute of a Code"), Made().file(b"\xb1", attribute=("LineNumberTable", b"\0"))

@@ -242,7 +242,7 @@ PARSER = [
     (r"[Bb]ootstrap|argument_index", "BootstrapMethods, which are passed over here (JVMS 4.7.23)", nothing),
     (r"Field .* has illegal signature", IN_CODE, without_attributes),
     (r"has illegal signature|<clinit> is not static", "the descriptor and the flags of <init> and <clinit> (JVMS 4.6)", another_name),
-    (r"Illegal class modifiers", "a class's flags beyond those that are asked here, its own or in InnerClasses (JVMS 4.1, 4.7.6)", right_class_flags),
+    (r"Illegal class modifiers", "a class's flags, its own or in InnerClasses, that aren't asked here (JVMS 4.1, 4.7.6)", right_class_flags),
     (r"illegal modifiers|Illegal (field|method) modifiers", "flags beyond those that are asked here (JVMS 4.1, 4.5, 4.6)", right_flags),
     (r"Illegal (method) name|Bad method name", "the spelling of a method's name, its own or one in the pool (JVMS 4.2.2)", legal_names),
     (r"Illegal (field|class) name|Bad field name|Bad name", "the spelling of a field's or a class's name (JVMS 4.2.2)", nothing),
