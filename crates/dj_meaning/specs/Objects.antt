@@ -1,5 +1,6 @@
 -- What is asked of objects, arrays and classes, and when an operation traps (JLS 15.8.2, 15.9.4, 15.10, 15.11, 15.12.4, 15.20.2, 15.26.1).
 use Rattle.std.specs.Prelude.{ℕ, ℤ, pos, ◌&&◌, false, int_lt, int_le, List, [], ◌∷◌, Option, Some, None, if◌then◌else◌, codes}
+use Rattle.std.specs.Int.{w32, cast_signed}
 use Rattle.std.specs.List.{list_any}
 use Rattle.dj_names.specs.declared.header.Header.{Header}
 use Rattle.dj_names.specs.declared.members.Constant.{Constant}
@@ -66,9 +67,9 @@ field_written class name field object value =
 
 -- ---- arrays
 
--- the length of an array
+-- the length of an array, as an int: as it is, where it is below 2 ^ 31 (10.7); a longer one fits nowhere
 abbrev pub length_read : Value → Reply Value
-length_read array = with_object array (λ reference. Gives (Int (pos reference.length)))
+length_read array = with_object array (λ reference. Gives (Int (cast_signed w32 reference.length)))
 
 -- an int
 abbrev pub with_int : {A : Type 0} → Value → (ℤ → Reply A) → Reply A
