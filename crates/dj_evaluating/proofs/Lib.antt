@@ -1,0 +1,4 @@
+pub mod PartLemmas
+pub mod OperandLemmas
+pub mod ValuesLemmas
+pub mod WholeLemmas
