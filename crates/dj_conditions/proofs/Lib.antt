@@ -1,0 +1,2 @@
+pub mod ExpressionLaw
+mod ConstantLemmas

@@ -1,0 +1,3 @@
+pub mod SetLemmas
+mod OrderLemmas
+pub mod ListLemmas

@@ -1,0 +1,3 @@
+-- What the contracts rest on, in reading order; how a list keeps a set is told last.
+pub mod Sets
+pub mod Lists
