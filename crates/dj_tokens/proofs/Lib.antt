@@ -3,3 +3,4 @@ pub mod NamesLemmas
 pub mod TypesLemmas
 pub mod TypeViews
 pub mod Runs
+pub mod KeywordLemmas

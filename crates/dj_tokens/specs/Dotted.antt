@@ -1,7 +1,7 @@
 -- Names of words with dots between them, read a word at a time: what each may be a name of (JLS 6.5).
-use Rattle.std.specs.Prelude.{ℕ, ◌-◌, Bool, true, false, nat_le, if◌then◌else◌, List, [], ◌∷◌, ◌++◌, length, take, Option, Some, None, codes}
+use Rattle.std.specs.Prelude.{ℕ, Bool, false, if◌then◌else◌, List, [], ◌∷◌, ◌++◌, Option, Some, None, codes}
 use Rattle.dj_names.specs.Types.{JType, Boolean, Byte, Char, Short, Int, Long, Float, Double, Class}
-use Rattle.dj_syntax.specs.Trees.{Exp, Null, Variable, Field, Static}
+use Rattle.dj_syntax.specs.Trees.{Exp, Variable, Field, Static}
 use Rattle.dj_tokens.specs.Words.{is_word}
 use Rattle.dj_tokens.specs.Literals.{is_variable_word, variable_of, number_behind_letter}
 

@@ -1,5 +1,5 @@
 -- What a word is in Java's grammar (JLS 3.8 to 3.12).
-use Rattle.std.specs.Prelude.{ℕ, Bool, if◌then◌else◌, List, [], ◌∷◌, Option, Some, None, codes, nat_eq}
+use Rattle.std.specs.Prelude.{ℕ, if◌then◌else◌, List, [], ◌∷◌, Option, Some, None, codes, nat_eq}
 use Rattle.dj_syntax.specs.declared.operator.Op.{Op}
 use Rattle.dj_syntax.specs.declared.operator.Op.TheVariants as op
 use Rattle.dj_tokens.specs.declared.tokens.Token.{Token}
@@ -90,12 +90,16 @@ abbrev pub token_or : Option Token → Token → Token
 token_or None other = other
 token_or (Some found) other = found
 
+-- what a word of letters is: a keyword, or a name
+abbrev pub word_of : List ℕ → Token
+word_of word = token_or (statement_of word) (name_of word)
+
 -- what a word is
 abbrev pub token_of : List ℕ → Token
 token_of [] = token.Name
 token_of (first ∷ rest) =
     if is_digit first then token.Number
-    else if is_letter first then token_or (statement_of (first ∷ rest)) (name_of (first ∷ rest))
+    else if is_letter first then word_of (first ∷ rest)
     else if is_operator first then sign_of (first ∷ rest)
     else if is_quote first then token.Text
     else separator_of first

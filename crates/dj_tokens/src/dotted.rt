@@ -1,10 +1,10 @@
 //! Names of words with dots between them, read a word at a time (JLS 6.5).
 
-ghost use Rattle.std.specs.Prelude.{◌≡◌, IfOk, option_map};
+ghost use Rattle.std.specs.Prelude.{◌≡◌, IfOk, OnOk, option_map};
 ghost use Rattle.dj_names.specs.Types.{view_type};
 ghost use Rattle.dj_syntax.specs.Trees.{view_exp};
 ghost use Rattle.dj_tokens.specs.Dotted.{begun, extended, field_of_value, joined_to, prefix_units, primitive_of, type_of_name, value_of, variable_in, whole};
-ghost use Rattle.dj_tokens.specs.DottedViews.{view_name};
+ghost use Rattle.dj_tokens.specs.DottedViews.{view_name, view_primitive};
 
 use crate::kept::KnownNames;
 use crate::literals::{is_variable_word, number_behind_letter, variable_of};
@@ -14,16 +14,32 @@ use dj_names::{Boxed, ClassName, JType, Units};
 use dj_syntax::Exp;
 use std::alloc::{AllocError, Global};
 
+/// The room that a name of several words is given at first.
+const ROOM: usize = 32;
+
 /// The keyword that stands before the name of a method above.
 const SUPER: &[u8] = b"super";
+
+/// A primitive type.
+#[derive(Clone, Copy)]
+pub enum Primitive {
+    Boolean,
+    Byte,
+    Char,
+    Short,
+    Int,
+    Long,
+    Float,
+    Double,
+}
 
 /// A name as far as it is read, with what it may be a name of.
 #[derive(Drop)]
 pub struct DottedName {
     /// Its value, where it begins with a variable.
-    pub value: Option<Exp>,
+    pub value: Option<Boxed<Exp>>,
     /// The primitive type whose keyword it is.
-    pub primitive: Option<JType>,
+    pub primitive: Option<Primitive>,
     /// The number behind the letter of its first word, as a label has one.
     pub number: u32,
     /// The words before the last one, with slashes between them.
@@ -45,8 +61,9 @@ impl DottedName {
         ensures begun { IfOk result (λ name. view_name name ≡ begun word.now) }
     {
         let last = names.word(alloc, word)?;
+        let value = variable_in(alloc, word)?;
         Ok(DottedName {
-            value: variable_in(word),
+            value,
             primitive: primitive_of(word),
             number: number_behind_letter(word),
             prefix: None,
@@ -58,33 +75,36 @@ impl DottedName {
 
     /// The name with a word more.
     pub fn extended(
-        self,
+        mut self,
         alloc: Global,
         names: &mut KnownNames,
         word: &[u8],
     ) -> Result<DottedName, AllocError>
         ensures extended { IfOk result (λ name. view_name name ≡ extended (view_name self) word.now) }
     {
-        let DottedName {
-            value,
-            number,
-            prefix,
-            last,
-            is_super,
-            ..
-        } = self;
-        let prefix = joined_to(alloc, prefix, &last)?;
+        self.extend(alloc, names, word)?;
+        Ok(self)
+    }
+
+    /// The name goes on with a word more.
+    pub fn extend(
+        &mut self,
+        alloc: Global,
+        names: &mut KnownNames,
+        word: &[u8],
+    ) -> Result<(), AllocError>
+        ensures extended { OnOk result (view_name self.new ≡ extended (view_name self.old) word.now) }
+    {
+        let prefix = joined_to(alloc, self.prefix.take(), &self.last)?;
         let last = names.word(alloc, word)?;
-        let value = field_of_value(alloc, value, word, &last)?;
-        Ok(DottedName {
-            value,
-            primitive: None,
-            number,
-            prefix: Some(prefix),
-            last,
-            behind_super: is_super,
-            is_super: is_word(word, SUPER),
-        })
+        let value = field_of_value(alloc, self.value.take(), word, &last)?;
+        self.prefix = Some(prefix);
+        self.last = last;
+        self.value = value;
+        self.primitive = None;
+        self.behind_super = self.is_super;
+        self.is_super = is_word(word, SUPER);
+        Ok(())
     }
 
     /// The name's value: a variable or a field of one, and else a static field.
@@ -98,7 +118,7 @@ impl DottedName {
             ..
         } = self;
         match value {
-            Some(value) => Ok(value),
+            Some(value) => Ok(value.into_inner()),
             None => {
                 let class = class_of(alloc, prefix)?;
                 Ok(Exp::Static(class, last))
@@ -107,11 +127,11 @@ impl DottedName {
     }
 
     /// The type that the name names.
-    pub fn into_type(mut self, alloc: Global) -> Result<JType, AllocError>
+    pub fn into_type(self, alloc: Global) -> Result<JType, AllocError>
         ensures kind { IfOk result (λ kind. view_type kind ≡ type_of_name (view_name self)) }
     {
-        match self.primitive.take() {
-            Some(kind) => Ok(kind),
+        match self.primitive {
+            Some(kind) => Ok(type_of(kind)),
             None => {
                 let class = self.into_class(alloc)?;
                 Ok(JType::Class(class))
@@ -156,38 +176,54 @@ fn class_named(units: Vec<u16>) -> Result<ClassName, AllocError>
 }
 
 /// A variable, where a word is spelled like one.
-fn variable_in(word: &[u8]) -> Option<Exp>
-    ensures variable { option_map view_exp result ≡ variable_in word.now }
+fn variable_in(alloc: Global, word: &[u8]) -> Result<Option<Boxed<Exp>>, AllocError>
+    ensures variable { IfOk result (λ value. option_map view_exp value ≡ variable_in word.now) }
 {
     if is_variable_word(word) {
-        Some(Exp::Var(variable_of(word)))
+        Ok(Some(Boxed::new(alloc, Exp::Var(variable_of(word)))?))
+    } else {
+        Ok(None)
+    }
+}
+
+/// The primitive type whose keyword a word is.
+fn primitive_of(word: &[u8]) -> Option<Primitive>
+    ensures primitive { option_map view_primitive result ≡ primitive_of word.now }
+{
+    if is_word(word, b"boolean") {
+        Some(Primitive::Boolean)
+    } else if is_word(word, b"byte") {
+        Some(Primitive::Byte)
+    } else if is_word(word, b"char") {
+        Some(Primitive::Char)
+    } else if is_word(word, b"short") {
+        Some(Primitive::Short)
+    } else if is_word(word, b"int") {
+        Some(Primitive::Int)
+    } else if is_word(word, b"long") {
+        Some(Primitive::Long)
+    } else if is_word(word, b"float") {
+        Some(Primitive::Float)
+    } else if is_word(word, b"double") {
+        Some(Primitive::Double)
     } else {
         None
     }
 }
 
-/// The primitive type whose keyword a word is.
-fn primitive_of(word: &[u8]) -> Option<JType>
-    ensures primitive { option_map view_type result ≡ primitive_of word.now }
+/// The type that is this primitive one.
+fn type_of(kind: Primitive) -> JType
+    ensures kind { view_type result ≡ view_primitive kind }
 {
-    if is_word(word, b"boolean") {
-        Some(JType::Boolean)
-    } else if is_word(word, b"byte") {
-        Some(JType::Byte)
-    } else if is_word(word, b"char") {
-        Some(JType::Char)
-    } else if is_word(word, b"short") {
-        Some(JType::Short)
-    } else if is_word(word, b"int") {
-        Some(JType::Int)
-    } else if is_word(word, b"long") {
-        Some(JType::Long)
-    } else if is_word(word, b"float") {
-        Some(JType::Float)
-    } else if is_word(word, b"double") {
-        Some(JType::Double)
-    } else {
-        None
+    match kind {
+        Primitive::Boolean => JType::Boolean,
+        Primitive::Byte => JType::Byte,
+        Primitive::Char => JType::Char,
+        Primitive::Short => JType::Short,
+        Primitive::Int => JType::Int,
+        Primitive::Long => JType::Long,
+        Primitive::Float => JType::Float,
+        Primitive::Double => JType::Double,
     }
 }
 
@@ -196,7 +232,11 @@ fn joined_to(alloc: Global, prefix: Option<Vec<u16>>, last: &Units) -> Result<Ve
     ensures joined { IfOk result (λ units. units.items ≡ joined_to (option_map (λ prefix. prefix.items) prefix) last.now) }
 {
     match prefix {
-        None => Vec::from_slice(alloc, last.as_slice()),
+        None => {
+            let mut units = Vec::with_capacity(alloc, ROOM)?;
+            units.extend_from_slice(last.as_slice())?;
+            Ok(units)
+        }
         Some(mut units) => {
             units.push(SLASH)?;
             units.extend_from_slice(last.as_slice())?;
@@ -219,10 +259,10 @@ fn class_of(alloc: Global, prefix: Option<Vec<u16>>) -> Result<ClassName, AllocE
 /// A field of a value, where there is one; none is called `super`. Its name is the word's units.
 fn field_of_value(
     alloc: Global,
-    value: Option<Exp>,
+    value: Option<Boxed<Exp>>,
     word: &[u8],
     name: &Units,
-) -> Result<Option<Exp>, AllocError>
+) -> Result<Option<Boxed<Exp>>, AllocError>
     requires same { name.now ≡ word.now }
     ensures field { IfOk result (λ field. option_map view_exp field ≡ field_of_value (option_map view_exp value) word.now) }
 {
@@ -232,8 +272,8 @@ fn field_of_value(
             if is_word(word, SUPER) {
                 return Ok(None);
             }
-            let object = Boxed::new(alloc, object)?;
-            Ok(Some(Exp::Field(object, name.copy(alloc)?)))
+            let field = Exp::Field(object, name.copy(alloc)?);
+            Ok(Some(Boxed::new(alloc, field)?))
         }
     }
 }

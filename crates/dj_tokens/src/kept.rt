@@ -37,15 +37,16 @@ impl KnownNames {
         Ok(units)
     }
 
-    /// The same name, in the room of an equal one where it is among the last names.
-    pub fn shared(&mut self, alloc: Global, name: Units) -> Result<Units, AllocError>
-        ensures same { IfOk result (λ shared. shared ≡ name) }
+    /// The units of a name. They take no room of their own where the name is among the last ones.
+    pub fn shared(&mut self, alloc: Global, name: Vec<u16>) -> Result<Units, AllocError>
+        ensures same { IfOk result (λ shared. shared ≡ name.items) }
     {
-        if let Some(units) = equal(alloc, self.names.as_slice(), &name)? {
+        if let Some(units) = equal(alloc, self.names.as_slice(), name.as_slice())? {
             return Ok(units);
         }
-        self.keep(name.copy(alloc)?)?;
-        Ok(name)
+        let units = Units::from_vec(name)?;
+        self.keep(units.copy(alloc)?)?;
+        Ok(units)
     }
 
     /// Keeps a name, where there are many in the place of the one that is kept longest.
@@ -74,15 +75,22 @@ fn spelled(alloc: Global, names: &[Units], word: &[u8]) -> Result<Option<Units>,
 }
 
 /// The one of the names that is equal to another.
-fn equal(alloc: Global, names: &[Units], other: &Units) -> Result<Option<Units>, AllocError>
+fn equal(alloc: Global, names: &[Units], other: &[u16]) -> Result<Option<Units>, AllocError>
     ensures same { IfOk result (λ found. IfSome found (λ units. units ≡ other.now)) }
 {
     for name in names {
-        if name == other {
+        if is_equal(name.as_slice(), other) {
             return Ok(Some(name.copy(alloc)?));
         }
     }
     Ok(None)
+}
+
+/// Whether units are equal. Their numbers are compared first, since most names differ there.
+fn is_equal(units: &[u16], other: &[u16]) -> bool
+    ensures equal { IsTrue result → units.now ≡ other.now }
+{
+    units.len() == other.len() && units == other
 }
 
 /// Whether a word has these units.

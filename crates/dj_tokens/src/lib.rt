@@ -10,7 +10,7 @@ mod names;
 mod tokens;
 mod words;
 
-pub use dotted::DottedName;
+pub use dotted::{DottedName, Primitive};
 pub use kept::KnownNames;
 pub use literals::{literal_of, negated_int, negated_long, unquoted, variable_of};
 pub use names::{SLASH, read_name, read_names, read_parameters, read_result, read_type, units_of};

@@ -1,7 +1,8 @@
 //! What words are in Java's grammar (JLS 3.8 to 3.12).
 
-ghost use Rattle.std.specs.Prelude.{◌≡◌};
-ghost use Rattle.dj_tokens.specs.Tokens.{name_of, operator_of, separator_of, sign_of, statement_of, token_of};
+ghost use Rattle.std.specs.Prelude.{◌≡◌, if◌then◌else◌, nat_eq, true};
+ghost use Rattle.dj_tokens.specs.Tokens.{operator_of, separator_of, sign_of, token_of, word_of};
+ghost use Rattle.dj_tokens.specs.Words.{begins, is_word};
 
 use crate::words::{is_digit, is_letter, is_operator, is_word};
 use dj_syntax::Op;
@@ -59,10 +60,7 @@ pub fn token_of(word: &[u8]) -> Token
     match word {
         [] => Token::Name,
         [first, ..] if is_digit(*first) => Token::Number,
-        [first, ..] if is_letter(*first) => match statement_of(word) {
-            Some(token) => token,
-            None => name_of(word),
-        },
+        [first, ..] if is_letter(*first) => word_of(word),
         [first, ..] if is_operator(*first) => sign_of(word),
         [b'"', ..] => Token::Text,
         [first, ..] => separator_of(*first),
@@ -100,67 +98,124 @@ fn sign_of(word: &[u8]) -> Token
     }
 }
 
-/// A keyword of statements, where the word is one.
-fn statement_of(word: &[u8]) -> Option<Token>
-    ensures token { result ≡ statement_of word.now }
+/// A keyword, or a name. Its first letter tells which keywords a word is compared with.
+fn word_of(word: &[u8]) -> Token
+    ensures token { result ≡ word_of word.now }
 {
-    if is_word(word, b"return") {
-        Some(Token::Return)
-    } else if is_word(word, b"if") {
-        Some(Token::If)
-    } else if is_word(word, b"else") {
-        Some(Token::Else)
-    } else if is_word(word, b"while") {
-        Some(Token::While)
-    } else if is_word(word, b"do") {
-        Some(Token::Do)
-    } else if is_word(word, b"for") {
-        Some(Token::For)
-    } else if is_word(word, b"switch") {
-        Some(Token::Switch)
-    } else if is_word(word, b"case") {
-        Some(Token::Case)
-    } else if is_word(word, b"default") {
-        Some(Token::Default)
-    } else if is_word(word, b"break") {
-        Some(Token::Break)
-    } else if is_word(word, b"continue") {
-        Some(Token::Continue)
-    } else if is_word(word, b"throw") {
-        Some(Token::Throw)
-    } else if is_word(word, b"try") {
-        Some(Token::Try)
-    } else if is_word(word, b"catch") {
-        Some(Token::Catch)
-    } else if is_word(word, b"finally") {
-        Some(Token::Finally)
-    } else if is_word(word, b"synchronized") {
-        Some(Token::Synchronized)
-    } else {
-        None
+    match word {
+        [b'b', ..] => keyword_or(word, b"break", Token::Break, Token::Name),
+        [b'c', ..] => word_in_c(word),
+        [b'd', ..] => word_in_d(word),
+        [b'e', ..] => keyword_or(word, b"else", Token::Else, Token::Name),
+        [b'f', ..] => word_in_f(word),
+        [b'i', ..] => word_in_i(word),
+        [b'n', ..] => word_in_n(word),
+        [b'r', ..] => keyword_or(word, b"return", Token::Return, Token::Name),
+        [b's', ..] => word_in_s(word),
+        [b't', ..] => word_in_t(word),
+        [b'w', ..] => keyword_or(word, b"while", Token::While, Token::Name),
+        _ => Token::Name,
     }
 }
 
-/// A keyword of expressions, or a name.
-fn name_of(word: &[u8]) -> Token
-    ensures token { result ≡ name_of word.now }
+/// What this keyword is, where the word is it, and else the other.
+fn keyword_or(word: &[u8], keyword: &[u8], token: Token, other: Token) -> Token
+    ensures token { result ≡ (if is_word word.now keyword.now then token else other) }
 {
-    if is_word(word, b"true") {
-        Token::True
-    } else if is_word(word, b"false") {
-        Token::False
-    } else if is_word(word, b"null") {
-        Token::Null
-    } else if is_word(word, b"this") {
-        Token::This
-    } else if is_word(word, b"new") {
-        Token::New
-    } else if is_word(word, b"instanceof") {
-        Token::InstanceOf
-    } else if is_word(word, b"class") {
-        Token::Class
+    if is_word(word, keyword) { token } else { other }
+}
+
+/// A keyword that begins with `c`, or a name.
+fn word_in_c(word: &[u8]) -> Token
+    requires first { begins (nat_eq 99) word.now ≡ true }
+    ensures token { result ≡ word_of word.now }
+{
+    if is_word(word, b"case") {
+        Token::Case
+    } else if is_word(word, b"continue") {
+        Token::Continue
+    } else if is_word(word, b"catch") {
+        Token::Catch
     } else {
-        Token::Name
+        keyword_or(word, b"class", Token::Class, Token::Name)
+    }
+}
+
+/// A keyword that begins with `d`, or a name.
+fn word_in_d(word: &[u8]) -> Token
+    requires first { begins (nat_eq 100) word.now ≡ true }
+    ensures token { result ≡ word_of word.now }
+{
+    if is_word(word, b"do") {
+        Token::Do
+    } else {
+        keyword_or(word, b"default", Token::Default, Token::Name)
+    }
+}
+
+/// A keyword that begins with `f`, or a name.
+fn word_in_f(word: &[u8]) -> Token
+    requires first { begins (nat_eq 102) word.now ≡ true }
+    ensures token { result ≡ word_of word.now }
+{
+    if is_word(word, b"for") {
+        Token::For
+    } else if is_word(word, b"finally") {
+        Token::Finally
+    } else {
+        keyword_or(word, b"false", Token::False, Token::Name)
+    }
+}
+
+/// A keyword that begins with `i`, or a name.
+fn word_in_i(word: &[u8]) -> Token
+    requires first { begins (nat_eq 105) word.now ≡ true }
+    ensures token { result ≡ word_of word.now }
+{
+    if is_word(word, b"if") {
+        Token::If
+    } else {
+        keyword_or(word, b"instanceof", Token::InstanceOf, Token::Name)
+    }
+}
+
+/// A keyword that begins with `n`, or a name.
+fn word_in_n(word: &[u8]) -> Token
+    requires first { begins (nat_eq 110) word.now ≡ true }
+    ensures token { result ≡ word_of word.now }
+{
+    if is_word(word, b"null") {
+        Token::Null
+    } else {
+        keyword_or(word, b"new", Token::New, Token::Name)
+    }
+}
+
+/// A keyword that begins with `s`, or a name.
+fn word_in_s(word: &[u8]) -> Token
+    requires first { begins (nat_eq 115) word.now ≡ true }
+    ensures token { result ≡ word_of word.now }
+{
+    if is_word(word, b"switch") {
+        Token::Switch
+    } else {
+        keyword_or(word, b"synchronized", Token::Synchronized, Token::Name)
+    }
+}
+
+/// A keyword that begins with `t`, or a name.
+fn word_in_t(word: &[u8]) -> Token
+    requires first { begins (nat_eq 116) word.now ≡ true }
+    ensures token { result ≡ word_of word.now }
+{
+    if is_word(word, b"throw") {
+        Token::Throw
+    } else if is_word(word, b"try") {
+        Token::Try
+    } else if is_word(word, b"true") {
+        Token::True
+    } else {
+        keyword_or(word, b"this", Token::This, Token::Name)
     }
 }
 

@@ -89,11 +89,11 @@ impl<'a> Reader<'a> {
     }
 }
 
-/// Whether a word is this one.
+/// Whether a word is this one. Their lengths are compared first, since most words differ there.
 pub fn is_word(word: &[u8], other: &[u8]) -> bool
     ensures same { result ≡ is_word word.now other.now }
 {
-    word == other
+    word.len() == other.len() && word == other
 }
 
 /// A text from its first word on.
