@@ -15,8 +15,8 @@ use Rattle.dj_expressions.specs.Views.{view_callee}
 -- ---- calls
 
 module _ (callee : code_callee.Callee) (arguments : List code_exp.Exp) where
-  pub called-object : (object boxed : code_exp.Exp) (name : List ℕ) → callee ≡ callees.OfObject object name → boxed ≡ object → view_exp (exp.Call boxed name arguments) ≡ called (view_callee callee) (exps_of (map view_exp arguments))
-  called-object object boxed name is same = rw (is, same) (view_call object name arguments)
+  pub called-object : (object : code_exp.Exp) (name : List ℕ) → callee ≡ callees.OfObject object name → view_exp (exp.Call object name arguments) ≡ called (view_callee callee) (exps_of (map view_exp arguments))
+  called-object object name is = rw is (view_call object name arguments)
 
   pub called-class : (class name : List ℕ) → callee ≡ callees.OfClass class name → view_exp (exp.StaticCall class name arguments) ≡ called (view_callee callee) (exps_of (map view_exp arguments))
   called-class class name is = rw is (view_static_call class name arguments)

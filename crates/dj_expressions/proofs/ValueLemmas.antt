@@ -124,8 +124,8 @@ view_this : view_exp exp.This ≡ This
 view_this = search (rules, the_lemmas)
 
 -- a field calls a method of its object
-pub called_by-field : (value object inner : code_exp.Exp) (name : List ℕ) → value ≡ exp.Field object name → inner ≡ object → Some (OfObject (view_exp inner) name) ≡ called_by (view_exp value)
-called_by-field value object inner name is same = rw (is, same, view_field object name) refl
+pub called_by-field : (value object : code_exp.Exp) (name : List ℕ) → value ≡ exp.Field object name → Some (OfObject (view_exp object) name) ≡ called_by (view_exp value)
+called_by-field value object name is = rw (is, view_field object name) refl
 
 -- `this` calls a constructor
 pub called_by-this : (value : code_exp.Exp) → value ≡ exp.This → Some (Own true) ≡ called_by (view_exp value)

@@ -4,14 +4,14 @@ ghost use Rattle.std.specs.Prelude.{◌≡◌, [], ◌∷◌, ◌++◌, map, IfO
 ghost use Rattle.dj_names.specs.Types.{Array, view_type};
 ghost use Rattle.dj_syntax.specs.Trees.{Element, exps_of, view_exp};
 ghost use Rattle.dj_grammar.specs.Brackets.{above_in, called_by, called_plainly, at_opener, callee_of, close_parenthesis, close_bracket, close_ended, close_opened, close_opener, index_ended, index_opener, next, next_ended, next_opener, no_arguments, open_parenthesis, open_arguments, open_bracket, open_named, pair_opener};
-ghost use Rattle.dj_grammar.specs.Frames.{Arguments, Bracket, Creation, Joins, Negated, Opens, Parenthesis, Size, called, creating, opened};
+ghost use Rattle.dj_grammar.specs.Frames.{Arguments, Bracket, Creation, Joins, Negated, Opens, Parenthesis, Size, called, collapsed, creating, opened};
 ghost use Rattle.dj_grammar.specs.Readings.{Called, Lost, Named, Sized, Stands, Typed, Wanted, ended};
 ghost use Rattle.dj_tokens.specs.Dotted.{type_of_name, value_of, whole};
 ghost use Rattle.dj_tokens.specs.DottedViews.{view_name};
 ghost use Rattle.dj_expressions.specs.Views.{view_callee, view_joint, view_open, view_opener, view_reading, view_standing};
 
 use crate::frames::{
-    Callee, Joint, Opener, Pending, Standing, called, discard, opened_again, pop_opener,
+    Callee, Joint, Opener, Pending, Standing, called, discard, joined, opened_again, pop_opener,
     take_creation, take_parenthesis,
 };
 use crate::readings::Reading;
@@ -166,7 +166,7 @@ fn called_by(value: Exp) -> Option<Callee>
     ensures called { option_map view_callee result ≡ called_by (view_exp value) }
 {
     match value {
-        Exp::Field(object, name) => Some(Callee::OfObject(object.into_inner(), name)),
+        Exp::Field(object, name) => Some(Callee::OfObject(object, name)),
         Exp::This => Some(Callee::Own(true)),
         _ => {
             discard(value);
@@ -195,8 +195,8 @@ fn class_named(
 ) -> Result<ClassName, AllocError>
     ensures named { IfOk result (λ class. class ≡ name.items) }
 {
-    let units = Units::from_vec(name)?;
-    Ok(ClassName::new(names.shared(alloc, units)?))
+    let units = names.shared(alloc, name)?;
+    Ok(ClassName::new(units))
 }
 
 /// What a name that doesn't begin with a variable calls.
@@ -237,7 +237,7 @@ fn callee_of(
         ..
     } = name;
     match value {
-        Some(value) => Ok(called_by(value)),
+        Some(value) => Ok(called_by(value.into_inner())),
         None => {
             let callee = called_plainly(alloc, names, prefix, behind_super, last)?;
             Ok(Some(callee))
@@ -383,8 +383,35 @@ fn close_typed(
 fn close_value(alloc: Global, reading: Reading) -> Result<Reading, AllocError>
     ensures closed { IfOk result (λ closed. view_reading closed ≡ close_ended (ended (view_reading reading))) }
 {
-    let end = reading.ended(alloc)?;
-    close_ended(alloc, end)
+    let stands = reading.standing(alloc)?;
+    close_standing(alloc, stands)
+}
+
+/// A parenthesis closes behind a value, where one stands.
+fn close_standing(alloc: Global, stands: Option<Standing>) -> Result<Reading, AllocError>
+    ensures closed { IfOk result (λ reading. view_reading reading ≡ close_ended (option_map (λ stands. collapsed stands.0 stands.1) (option_map view_standing stands))) }
+{
+    match stands {
+        None => Ok(Reading::Lost),
+        Some(Standing { value, pending }) => close_around(alloc, value, pending),
+    }
+}
+
+/// A parenthesis closes behind a value, and behind all that waits for it.
+pub fn close_around(
+    alloc: Global,
+    mut value: Exp,
+    mut pending: Items<Pending>,
+) -> Result<Reading, AllocError>
+    ensures closed { IfOk result (λ reading. view_reading reading ≡ close_ended (Some (collapsed (view_exp value) (view_open pending)))) }
+{
+    while let Some(frame) = pending.pop() {
+        match frame.into_parts() {
+            Ok(joint) => value = joined(alloc, joint, value)?,
+            Err(opener) => return close_opener(alloc, value, opener, pending),
+        }
+    }
+    Ok(Reading::Stands(value, pending))
 }
 
 /// No expression has this behind what was opened.
@@ -402,30 +429,6 @@ fn lost_value(value: Exp, opener: Opener, _outer: Items<Pending>) -> Reading
     discard(value);
     discard(opener);
     Reading::Lost
-}
-
-/// A parenthesis closes behind a value that ends, where one does.
-fn close_ended(alloc: Global, end: Option<Standing>) -> Result<Reading, AllocError>
-    ensures closed { IfOk result (λ reading. view_reading reading ≡ close_ended (option_map view_standing end)) }
-{
-    match end {
-        None => Ok(Reading::Lost),
-        Some(Standing { value, pending }) => close_opened(alloc, value, pending),
-    }
-}
-
-/// A parenthesis closes behind a value, where something was opened.
-fn close_opened(
-    alloc: Global,
-    value: Exp,
-    mut pending: Items<Pending>,
-) -> Result<Reading, AllocError>
-    ensures closed { IfOk result (λ reading. view_reading reading ≡ close_opened (view_exp value) (opened (view_open pending))) }
-{
-    match pop_opener(&mut pending) {
-        None => Ok(Reading::Stands(value, Items::new(alloc))),
-        Some(opener) => close_opener(alloc, value, opener, pending),
-    }
 }
 
 /// What closes behind a value: a parenthesis around it, or arguments.

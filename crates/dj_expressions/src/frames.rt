@@ -20,7 +20,7 @@ use std::alloc::{AllocError, Global};
 /// constructor, of this class or else of the one above; the helper.
 #[derive(Drop)]
 pub enum Callee {
-    OfObject(Exp, Units),
+    OfObject(Boxed<Exp>, Units),
     OfClass(ClassName, Units),
     Above(Option<ClassName>, Units),
     Creation(ClassName),
@@ -72,7 +72,7 @@ pub enum Pending {
 
 impl Pending {
     /// What waits, or what opens.
-    fn into_parts(self) -> Result<Joint, Opener>
+    pub fn into_parts(self) -> Result<Joint, Opener>
         ensures parts { MatchResult result (λ joint. self ≡ pendings.Joins joint) (λ opener. self ≡ pendings.Opens opener) }
     {
         match self {
@@ -182,7 +182,7 @@ fn assigned_to(alloc: Global, variable: Var, value: Exp) -> Result<Exp, AllocErr
 }
 
 /// A value behind what waits for it.
-fn joined(alloc: Global, joint: Joint, value: Exp) -> Result<Exp, AllocError>
+pub fn joined(alloc: Global, joint: Joint, value: Exp) -> Result<Exp, AllocError>
     ensures joined { IfOk result (λ made. view_exp made ≡ joined (view_joint joint) (view_exp value)) }
 {
     match joint {
@@ -289,10 +289,7 @@ fn called_with_all(
     ensures called { IfOk result (λ made. view_exp made ≡ called (view_callee callee) (exps_of (map view_exp arguments))) }
 {
     match callee {
-        Callee::OfObject(object, name) => {
-            let object = Boxed::new(alloc, object)?;
-            Ok(Exp::Call(object, name, arguments))
-        }
+        Callee::OfObject(object, name) => Ok(Exp::Call(object, name, arguments)),
         Callee::OfClass(class, name) => Ok(Exp::StaticCall(class, name, arguments)),
         Callee::Above(above, name) => Ok(Exp::SuperCall(above, name, arguments)),
         Callee::Creation(class) => Ok(Exp::New(class, arguments)),

@@ -1,10 +1,11 @@
 //! Expressions, read a word at a time.
 //! It stands on `dj_tokens` for words, and on `dj_grammar` for what each word means.
-//! The layer above, `dj_statements`, uses `Reading::read_word`, and what is open around a reading.
+//! The layer above, `dj_statements`, uses `Reading::read_word` and `Reading::pass`, and what is open around a reading.
 #![tactic(auto)]
 
 mod brackets;
 mod frames;
+mod passing;
 mod readings;
 mod steps;
 

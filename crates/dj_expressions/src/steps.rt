@@ -8,7 +8,7 @@ ghost use Rattle.dj_grammar.specs.Frames.{Asked, Joins, LeftOf, Negated, Opens, 
 ghost use Rattle.dj_tokens.specs.Dotted.{begun, extended, type_of_name, value_of};
 ghost use Rattle.dj_tokens.specs.Literals.{unquoted};
 ghost use Rattle.dj_grammar.specs.Readings.{Declared, Named, Selecting, Stands, Wanted, standing, wanted};
-ghost use Rattle.dj_grammar.specs.Steps.{answer, answer_joint, answer_test, asked, assign, assign_value, assign_variable, at_joint, assigns, class_literal, colon, dot, initialise, join, minus_or, name, operate, read_word, select_joint, stand, starting, variable_in_value, wait};
+ghost use Rattle.dj_grammar.specs.Steps.{answer, answer_joint, answer_test, asked, assign, assign_value, assign_variable, at_joint, assigns, class_literal, colon, dot, initialise, join, minus_or, name, operate, read_token, read_word, select_joint, stand, starting, variable_in_value, wait};
 ghost use Rattle.dj_tokens.specs.DottedViews.{view_name};
 ghost use Rattle.dj_expressions.specs.Views.{view_callee, view_joint, view_open, view_reading, view_standing};
 
@@ -32,7 +32,21 @@ impl Reading {
     ) -> Result<Reading, AllocError>
         ensures read { IfOk result (λ reading. view_reading reading ≡ read_word (view_reading self) word.now) }
     {
-        match token_of(word) {
+        let reading = self.read_token(alloc, names, token_of(word), word)?;
+        Ok(reading)
+    }
+
+    /// A word more is read, given what it is.
+    pub fn read_token(
+        self,
+        alloc: Global,
+        names: &mut KnownNames,
+        token: Token,
+        word: &[u8],
+    ) -> Result<Reading, AllocError>
+        ensures read { IfOk result (λ reading. view_reading reading ≡ read_token token word.now (view_reading self)) }
+    {
+        match token {
             Token::Open => self.open(alloc, names),
             Token::Close => self.close(alloc),
             Token::OpenBracket => self.open_bracket(alloc),
@@ -90,7 +104,7 @@ impl Reading {
     }
 
     /// An operand, which may be a number.
-    fn stand(self, value: Exp, number: bool) -> Result<Reading, AllocError>
+    pub fn stand(self, value: Exp, number: bool) -> Result<Reading, AllocError>
         ensures stands { IfOk result (λ reading. view_reading reading ≡ stand (view_exp value) (wanted (if number then Sign else Negated) (view_reading self))) }
     {
         match self.wanted(number) {
@@ -130,7 +144,7 @@ impl Reading {
     }
 
     /// An operator, or the bracket before the type of the helper.
-    fn operate(self, alloc: Global, operator: Op) -> Result<Reading, AllocError>
+    pub fn operate(self, alloc: Global, operator: Op) -> Result<Reading, AllocError>
         ensures operates { IfOk result (λ reading. view_reading reading ≡ operate operator (view_reading self)) }
     {
         match self {
@@ -160,7 +174,7 @@ impl Reading {
     }
 
     /// A dot.
-    fn dot(self, alloc: Global) -> Result<Reading, AllocError>
+    pub fn dot(self, alloc: Global) -> Result<Reading, AllocError>
         ensures dot { IfOk result (λ reading. view_reading reading ≡ dot (view_reading self)) }
     {
         match self {
@@ -183,7 +197,12 @@ impl Reading {
 
     /// A name: of a variable, a class, a field or a method; behind a type that of a variable that is
     /// declared.
-    fn name(self, alloc: Global, names: &mut KnownNames, word: &[u8]) -> Result<Reading, AllocError>
+    pub fn name(
+        self,
+        alloc: Global,
+        names: &mut KnownNames,
+        word: &[u8],
+    ) -> Result<Reading, AllocError>
         ensures named { IfOk result (λ reading. view_reading reading ≡ name word.now (view_reading self)) }
     {
         match self {

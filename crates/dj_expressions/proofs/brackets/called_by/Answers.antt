@@ -3,7 +3,7 @@ use Rattle.std.proofs.Common.{sym}
 use Rattle.dj_expressions.proofs.brackets.called_by.Goals as goal
 
 pub returns-in-Field : goal.returns-in-Field
-returns-in-Field c = record { called = called_by-field c.args.value c.in-Field.object c.into_inner.result c.in-Field.name c.in-Field.is c.into_inner.ensures }
+returns-in-Field c = record { called = called_by-field c.args.value c.in-Field.object c.in-Field.name c.in-Field.is }
 
 pub returns-in-This : goal.returns-in-This
 returns-in-This c = record { called = called_by-this c.args.value c.in-This.is }

@@ -1,10 +1,8 @@
 use Rattle.dj_expressions.proofs.MadeLemmas.{called-above, called-class, called-creation, called-object}
 use Rattle.dj_expressions.proofs.frames.called_with_all.Goals as goal
 
-pub returns-in_ok-object-in-OfObject : goal.returns-in_ok-object-in-OfObject
-returns-in_ok-object-in-OfObject c = record {
-  called = called-object c.args.callee c.args.arguments c.in-OfObject.object c.in_ok-object-in-OfObject.object c.in-OfObject.name c.in-OfObject.is c.in_ok-object-in-OfObject.ensures;
-}
+pub returns-in-OfObject : goal.returns-in-OfObject
+returns-in-OfObject c = record { called = called-object c.args.callee c.args.arguments c.in-OfObject.object c.in-OfObject.name c.in-OfObject.is }
 
 pub returns-in-OfClass : goal.returns-in-OfClass
 returns-in-OfClass c = record { called = called-class c.args.callee c.args.arguments c.in-OfClass.class c.in-OfClass.name c.in-OfClass.is }
