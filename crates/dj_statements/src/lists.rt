@@ -9,14 +9,14 @@ ghost use Rattle.dj_grammar.specs.Open.{Simple, flushed, no_statements};
 ghost use Rattle.dj_statements.specs.OpenViews.{put, view_blocks, view_clause, view_listed, view_outer, view_place, with_place};
 ghost use Rattle.dj_grammar.specs.Readings.{Head, Wanted};
 ghost use Rattle.dj_grammar.specs.Statements.{while_of};
-ghost use Rattle.dj_grammar.specs.Steps.{read_word};
+ghost use Rattle.dj_grammar.specs.Steps.{read_token};
 ghost use Rattle.dj_expressions.specs.Views.{view_reading};
 
 use crate::frames::{Clause, Frame, Last, Listed};
 use dj_expressions::{Opener, Reading, open_more, take_start};
 use dj_names::Items;
 use dj_syntax::{Stm, fitted};
-use dj_tokens::KnownNames;
+use dj_tokens::{KnownNames, Token};
 use std::alloc::{AllocError, Global};
 use std::mem;
 
@@ -82,20 +82,6 @@ pub fn labels_of(alloc: Global, reading: Reading) -> Result<Items<u32>, AllocErr
     }
 }
 
-/// Takes away how far an expression is read.
-fn take_reading(reading: &mut Reading) -> Reading
-    ensures taken { result ≡ reading.old }
-{
-    mem::replace(reading, Reading::Lost)
-}
-
-/// Puts how far an expression is read in the place of how far it was.
-fn put_reading(reading: &mut Reading, next: Reading)
-    ensures put { reading.new ≡ next }
-{
-    drop(mem::replace(reading, next));
-}
-
 impl Place {
     /// How far the expression is read.
     pub fn into_reading(self) -> Reading
@@ -119,15 +105,19 @@ impl Place {
     }
 
     /// A keyword begins a statement, whose value comes next.
-    pub fn begin_value(self, alloc: Global, clause: Clause) -> Result<Place, AllocError>
-        ensures begins { IfOk result (λ place. view_place place ≡ (view_clause clause, labels_of (view_reading self.reading), Wanted [])) }
+    pub fn begin_value(&mut self, alloc: Global, clause: Clause) -> Result<(), AllocError>
+        ensures begins { OnOk result (view_place self.new ≡ (view_clause clause, labels_of (view_reading self.old.reading), Wanted [])) }
     {
-        match self.into_labels(alloc) {
-            Ok(labels) => Ok(Place {
-                clause,
-                labels,
-                reading: Reading::Wanted(Items::new(alloc)),
-            }),
+        let before = self.take(alloc);
+        match before.into_labels(alloc) {
+            Ok(labels) => {
+                self.put(Place {
+                    clause,
+                    labels,
+                    reading: Reading::Wanted(Items::new(alloc)),
+                });
+                Ok(())
+            }
             Err(error) => {
                 drop(clause);
                 Err(error)
@@ -136,15 +126,19 @@ impl Place {
     }
 
     /// A keyword begins a statement, in which a parenthesis or a brace comes next.
-    pub fn begin_head(self, alloc: Global, clause: Clause) -> Result<Place, AllocError>
-        ensures begins { IfOk result (λ place. view_place place ≡ (view_clause clause, labels_of (view_reading self.reading), Head [])) }
+    pub fn begin_head(&mut self, alloc: Global, clause: Clause) -> Result<(), AllocError>
+        ensures begins { OnOk result (view_place self.new ≡ (view_clause clause, labels_of (view_reading self.old.reading), Head [])) }
     {
-        match self.into_labels(alloc) {
-            Ok(labels) => Ok(Place {
-                clause,
-                labels,
-                reading: Reading::Head(Items::new(alloc)),
-            }),
+        let before = self.take(alloc);
+        match before.into_labels(alloc) {
+            Ok(labels) => {
+                self.put(Place {
+                    clause,
+                    labels,
+                    reading: Reading::Head(Items::new(alloc)),
+                });
+                Ok(())
+            }
             Err(error) => {
                 drop(clause);
                 Err(error)
@@ -153,11 +147,11 @@ impl Place {
     }
 
     /// `while`, of a loop or behind the statements of a `do`.
-    pub fn begin_while(self, alloc: Global) -> Result<Place, AllocError>
-        ensures begins { IfOk result (λ place. (outer : List braces.Frame) (list : braces.Listed) → put outer list (view_place place) ≡ while_of (put outer list (view_place self)) (view_clause self.clause)) }
+    pub fn begin_while(&mut self, alloc: Global) -> Result<(), AllocError>
+        ensures begins { OnOk result ((outer : List braces.Frame) (list : braces.Listed) → put outer list (view_place self.new) ≡ while_of (put outer list (view_place self.old)) (view_clause self.old.clause)) }
     {
         match self.clause {
-            Clause::DoTest(_) => Ok(self),
+            Clause::DoTest(_) => Ok(()),
             Clause::Simple
             | Clause::ReturnOf
             | Clause::ThrowOf
@@ -203,33 +197,18 @@ impl Place {
         drop(mem::replace(self, next));
     }
 
-    /// A word of an expression.
+    /// A word of an expression, given what it is.
     pub fn pass(
         &mut self,
         alloc: Global,
         names: &mut KnownNames,
+        token: Token,
         word: &[u8],
     ) -> Result<(), AllocError>
-        ensures passed { OnOk result (view_place self.new ≡ (view_clause self.old.clause, reverse self.old.labels, read_word (view_reading self.old.reading) word.now)) }
+        ensures passed { OnOk result (view_place self.new ≡ (view_clause self.old.clause, reverse self.old.labels, read_token token word.now (view_reading self.old.reading))) }
     {
-        let before = take_reading(&mut self.reading);
-        let next = before.read_word(alloc, names, word)?;
-        put_reading(&mut self.reading, next);
+        self.reading.pass(alloc, names, token, word)?;
         Ok(())
-    }
-
-    /// The same, of a place that is given and answered.
-    pub fn passed(
-        self,
-        alloc: Global,
-        names: &mut KnownNames,
-        word: &[u8],
-    ) -> Result<Place, AllocError>
-        ensures passed { IfOk result (λ place. view_place place ≡ (view_clause self.clause, reverse self.labels, read_word (view_reading self.reading) word.now)) }
-    {
-        let mut place = self;
-        place.pass(alloc, names, word)?;
-        Ok(place)
     }
 }
 

@@ -13,13 +13,16 @@ use dj_tokens::{KnownNames, Reader};
 use std::alloc::{AllocError, Global};
 
 /// The expression up to a semicolon, where there is one. The semicolon isn't taken.
-pub fn read_value(alloc: Global, reader: &mut Reader) -> Result<Option<Exp>, AllocError>
+pub fn read_value(
+    alloc: Global,
+    names: &mut KnownNames,
+    reader: &mut Reader,
+) -> Result<Option<Exp>, AllocError>
     ensures read { IfOk result (λ value. (option_map view_exp value, reader.new) ≡ read_value (Wanted []) reader.old) }
 {
-    let mut names = KnownNames::new(alloc);
     let mut reading = Reading::Wanted(Items::new(alloc));
     while !reader.is_at_end() && !reader.is_at(b";") {
-        reading = reading.read_word(alloc, &mut names, reader.take())?;
+        reading = reading.read_word(alloc, names, reader.take())?;
     }
     value_in(alloc, reading)
 }
