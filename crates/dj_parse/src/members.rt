@@ -14,7 +14,7 @@ use crate::members::field::read_field;
 use crate::members::method::{CONSTRUCTOR, read_initialiser, read_method};
 use dj_names::{ClassName, Items, JType, Units};
 use dj_syntax::{FieldText, MethodText};
-use dj_tokens::{Reader, read_result, units_of};
+use dj_tokens::{KnownNames, Reader, read_result, units_of};
 pub use modifiers::read_modifiers;
 use std::alloc::{AllocError, Global};
 
@@ -79,11 +79,12 @@ pub fn read_members(
     ensures read { IfOk result (λ members. view_members members ≡ read_members (view_place place.now) most no_members reader.old) }
 {
     let mut members = Members::new(alloc);
+    let mut names = KnownNames::new(alloc);
     for _ in 0..most {
         if ends_members(reader) {
             return Ok(members);
         }
-        read_member(alloc, place, &mut members, reader)?;
+        read_member(alloc, place, &mut names, &mut members, reader)?;
     }
     Ok(members)
 }
@@ -99,19 +100,21 @@ fn ends_members(reader: &Reader) -> bool
 fn read_member(
     alloc: Global,
     place: &Place,
+    names: &mut KnownNames,
     members: &mut Members,
     reader: &mut Reader,
 ) -> Result<(), AllocError>
     ensures read { OnOk result ((view_members members.new, reader.new) ≡ read_member (view_place place.now) (view_members members.old) reader.old) }
 {
     let bits = read_modifiers(reader);
-    read_modified(alloc, place, members, bits, reader)
+    read_modified(alloc, place, names, members, bits, reader)
 }
 
 /// A member behind its modifiers, whose bits are these.
 fn read_modified(
     alloc: Global,
     place: &Place,
+    names: &mut KnownNames,
     members: &mut Members,
     bits: u16,
     reader: &mut Reader,
@@ -119,17 +122,17 @@ fn read_modified(
     ensures read { OnOk result ((view_members members.new, reader.new) ≡ read_modified (view_place place.now) (view_members members.old) bits reader.old) }
 {
     if reader.is_at(b"{") {
-        members.add_method(read_initialiser(alloc, place, bits, reader)?)
+        members.add_method(read_initialiser(alloc, place, names, bits, reader)?)
     } else if reader.is_at(b"<") {
         members.helper = Some(read_helper(alloc, reader)?);
         Ok(())
     } else if reader.is_next(b"(") {
         reader.advance();
-        let name = units_of(alloc, CONSTRUCTOR)?;
-        members.add_method(read_method(alloc, place, bits, name, None, reader)?)
+        let name = names.word(alloc, CONSTRUCTOR)?;
+        members.add_method(read_method(alloc, place, names, bits, name, None, reader)?)
     } else {
         let kind = read_result(alloc, reader)?;
-        read_named(alloc, place, members, bits, kind, reader)
+        read_named(alloc, place, names, members, bits, kind, reader)
     }
 }
 
@@ -147,6 +150,7 @@ fn read_helper(alloc: Global, reader: &mut Reader) -> Result<Units, AllocError>
 fn read_named(
     alloc: Global,
     place: &Place,
+    names: &mut KnownNames,
     members: &mut Members,
     bits: u16,
     kind: Option<JType>,
@@ -154,11 +158,11 @@ fn read_named(
 ) -> Result<(), AllocError>
     ensures read { OnOk result ((view_members members.new, reader.new) ≡ read_named (view_place place.now) (view_members members.old) bits (option_map view_type kind) reader.old) }
 {
-    let name = units_of(alloc, reader.take())?;
+    let name = names.word(alloc, reader.take())?;
     if reader.is_at(b"(") {
-        members.add_method(read_method(alloc, place, bits, name, kind, reader)?)
+        members.add_method(read_method(alloc, place, names, bits, name, kind, reader)?)
     } else {
         let kind = kind.unwrap_or(JType::Int);
-        members.add_field(read_field(alloc, place, bits, kind, name, reader)?)
+        members.add_field(read_field(alloc, place, names, bits, kind, name, reader)?)
     }
 }

@@ -10,13 +10,14 @@ use crate::members::Place;
 use dj_names::{JType, Units};
 use dj_statements::read_value;
 use dj_syntax::{FieldText, held_field};
-use dj_tokens::Reader;
+use dj_tokens::{KnownNames, Reader};
 use std::alloc::{AllocError, Global};
 
 /// A field from behind its name on: its value, where it has one, and the semicolon.
 pub fn read_field(
     alloc: Global,
     place: &Place,
+    names: &mut KnownNames,
     bits: u16,
     kind: JType,
     name: Units,
@@ -27,7 +28,7 @@ pub fn read_field(
     if reader.is_at(b"=") {
         reader.advance();
     }
-    let value = read_value(alloc, reader)?;
+    let value = read_value(alloc, names, reader)?;
     reader.advance();
     let mut field = FieldText {
         flags: bits,

@@ -10,7 +10,7 @@ use crate::members::Place;
 use dj_names::{ClassName, Descriptor, Items, JType, SharedList, Units, copy_names};
 use dj_statements::read_statements;
 use dj_syntax::{Body, MethodText, Stm, held_method};
-use dj_tokens::{Reader, read_names, read_parameters, units_of};
+use dj_tokens::{KnownNames, Reader, read_names, read_parameters};
 use std::alloc::{AllocError, Global};
 
 /// The name of a constructor.
@@ -47,6 +47,7 @@ impl Head {
 pub fn read_method(
     alloc: Global,
     place: &Place,
+    names: &mut KnownNames,
     bits: u16,
     name: Units,
     kind: Option<JType>,
@@ -57,7 +58,7 @@ pub fn read_method(
     reader.advance();
     let parameters = read_parameters(alloc, reader)?;
     let thrown = read_names(alloc, reader, b"throws")?;
-    let statements = read_body(alloc, reader)?;
+    let statements = read_body(alloc, names, reader)?;
     let head = Head {
         bits,
         name,
@@ -74,15 +75,16 @@ pub fn read_method(
 pub fn read_initialiser(
     alloc: Global,
     place: &Place,
+    names: &mut KnownNames,
     bits: u16,
     reader: &mut Reader,
 ) -> Result<MethodText, AllocError>
     ensures read { IfOk result (λ method. (view_method method, reader.new) ≡ read_initialiser (view_place place.now) bits reader.old) }
 {
-    let statements = read_body(alloc, reader)?;
+    let statements = read_body(alloc, names, reader)?;
     let head = Head {
         bits,
-        name: units_of(alloc, INITIALISER)?,
+        name: names.word(alloc, INITIALISER)?,
         thrown: Items::new(alloc),
         descriptor: Descriptor::Method {
             parameters: SharedList::from_vec(alloc, Vec::new(alloc))?,
@@ -93,13 +95,17 @@ pub fn read_initialiser(
 }
 
 /// The statements of a body, where there is one: in braces, or a semicolon.
-fn read_body(alloc: Global, reader: &mut Reader) -> Result<Option<Items<Stm>>, AllocError>
+fn read_body(
+    alloc: Global,
+    names: &mut KnownNames,
+    reader: &mut Reader,
+) -> Result<Option<Items<Stm>>, AllocError>
     ensures read { IfOk result (λ body. (option_map (map view_stm) body, reader.new) ≡ read_body reader.old) }
 {
     let in_braces = reader.is_at(b"{");
     reader.advance();
     if in_braces {
-        Ok(Some(read_statements(alloc, reader)?))
+        Ok(Some(read_statements(alloc, names, reader)?))
     } else {
         Ok(None)
     }
