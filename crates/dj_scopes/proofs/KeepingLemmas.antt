@@ -1,11 +1,11 @@
 -- What variables were is put back.
 use Rattle.std.proofs.Common.{◌≡◌, ℕ, ◌+◌, ◌<◌, ◌≤◌, ◌==◌, Bool, true, false, List, [], ◌∷◌, ◌++◌, length, drop, get_or, Option, Some, None, refl, sym, ap, ◌∙◌}
-use Rattle.std.specs.Prelude.{◌&&◌, option_map, if◌then◌else◌}
+use Rattle.std.specs.Prelude.{option_map, if◌then◌else◌}
 use Rattle.std.proofs.lemmas.Bool.{eqb-true, and_parts}
 use Rattle.std.proofs.lemmas.List.{drop_more, drop_all}
 use Rattle.dj_names.specs.Types.{JType, view_type}
 use Rattle.dj_syntax.specs.declared.statement.Stm as code_stm
-use Rattle.dj_syntax.specs.Trees.{Stms, Empty, And, view_stm, view_stms}
+use Rattle.dj_syntax.specs.Trees.{Empty, And, view_stm, view_stms}
 use Rattle.dj_syntax.specs.declared.variable.VarKind.{VarKind}
 use Rattle.dj_syntax.specs.declared.variable.VarKind.TheVariants as kind
 use Rattle.dj_syntax.specs.declared.variable.Var.{Var}

@@ -1,5 +1,5 @@
 -- Which types may be cast to which (JLS 5.5): number types to number types, and references where the two types don't exclude each other (5.5.1).
-use Rattle.std.specs.Prelude.{Bool, true, false, not, ◌&&◌, ◌||◌, ◌==◌, bit_and, is_some, List}
+use Rattle.std.specs.Prelude.{Bool, false, not, ◌&&◌, ◌||◌, ◌==◌, bit_and, is_some, List}
 use Rattle.std.specs.List.{list_any}
 use Rattle.dj_names.specs.declared.header.Header.{Header}
 use Rattle.dj_names.specs.Headers.{Name}

@@ -1,6 +1,6 @@
 -- The rules on expressions (JLS 15), each at its expression's place. Where a part has no type, that part breaks a rule itself, at a later place, and the
 -- rules on what it is a part of keep silent.
-use Rattle.std.specs.Prelude.{ℕ, ◌+◌, Bool, true, false, not, ◌&&◌, ◌||◌, ◌==◌, bit_and, is_some, List, Option, Some, None, option_and_then}
+use Rattle.std.specs.Prelude.{ℕ, ◌+◌, Bool, true, false, not, ◌&&◌, ◌==◌, bit_and, is_some, List, Option, Some, None, option_and_then}
 use Rattle.std.specs.List.{list_any}
 use Rattle.dj_names.specs.declared.header.Header.{Header}
 use Rattle.dj_names.specs.Headers.{Name}
@@ -15,14 +15,12 @@ use Rattle.dj_kinds.specs.Search.{header_of, superclass_in, interfaces_of}
 use Rattle.dj_meaning.specs.Calls.{MethodIn, is_assignable, chosen}
 use Rattle.dj_meaning.specs.Fields.{selected, named_field}
 use Rattle.dj_meaning.specs.Members.{has_flag}
-use Rattle.dj_meaning.specs.Promotions.{promoted}
 use Rattle.dj_meaning.specs.StaticTypes.{Scope, plain, type_of, types_of, object_target, class_target, super_target, new_target}
 use Rattle.dj_places.specs.Rules.{Rules, NoRule, Rule, ◌and◌}
-use Rattle.dj_places.specs.declared.kind.TypeKind.{TypeKind}
 use Rattle.dj_places.specs.declared.kind.TypeKind.TheVariants as kinds
 use Rattle.dj_typing.specs.Sites.{Site, context_of, is_whole_type, may_name, may_name_type}
 use Rattle.dj_typing.specs.Casting.{is_number, may_be_of, may_cast}
-use Rattle.dj_typing.specs.Operands.{is_of, is_boolean, is_int, is_object, operands_of, takes, agree, if_typed, if_both}
+use Rattle.dj_typing.specs.Operands.{is_of, is_boolean, is_int, operands_of, takes, agree, if_typed, if_both}
 
 -- ---- what a type must be
 

@@ -1,11 +1,11 @@
 -- Which operands operators take (JLS 15.15 to 15.25).
-use Rattle.std.specs.Prelude.{Bool, true, false, ◌&&◌, ◌||◌, List, Option, Some, None, option_and_then}
+use Rattle.std.specs.Prelude.{Bool, true, false, ◌&&◌, ◌||◌, List, Option, Some, None}
 use Rattle.dj_names.specs.declared.header.Header.{Header}
 use Rattle.dj_names.specs.Types as types
 use Rattle.dj_names.specs.Types.{JType, Boolean, Byte, Char, Short, Int, Long, Float, Double, Class, Array, StaticType, Of}
 use Rattle.dj_syntax.specs.declared.operator.Op.{Op}
 use Rattle.dj_syntax.specs.declared.operator.Op.TheVariants as op
-use Rattle.dj_values.specs.Deciding.{is_type, is_reference, is_some_and, is_array}
+use Rattle.dj_values.specs.Deciding.{is_type, is_reference, is_some_and}
 use Rattle.dj_meaning.specs.Promotions.{promoted}
 use Rattle.dj_typing.specs.Casting.{is_number, may_be_of}
 
