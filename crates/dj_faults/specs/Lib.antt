@@ -1,0 +1,3 @@
+-- What the contracts rest on: which of several faults counts, and what a body's fault says.
+pub mod Faults
+pub mod FirstFault

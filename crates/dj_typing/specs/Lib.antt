@@ -1,0 +1,5 @@
+-- The rules of typing, in reading order.
+pub mod Sites
+pub mod Casting
+pub mod Operands
+pub mod Expressions
