@@ -1,5 +1,5 @@
 -- Identifiers of Java in ASCII (JLS 3.8, 3.9, 3.10.3, 3.10.7).
-use Rattle.std.specs.Prelude.{◌≡◌, ◌≤◌, ℕ, ◌⊎◌, List, [], ◌∷◌, All, Contains, codes}
+use Rattle.std.specs.Prelude.{◌≡◌, ◌≤◌, ℕ, ◌⊎◌, Bool, false, List, [], ◌∷◌, All, Contains, codes, nat_eq}
 
 -- `A` to `Z`, `a` to `z`, `_` and `$`
 abbrev pub IsLetter : ℕ → Type 0
@@ -32,6 +32,11 @@ keywords =
 -- the literals that are spelled as identifiers are
 abbrev pub word_literals : List (List ℕ)
 word_literals = codes "true" ∷ codes "false" ∷ codes "null" ∷ []
+
+-- the word's first letter is this
+abbrev pub begins_with : ℕ → List ℕ → Bool
+begins_with letter [] = false
+begins_with letter (first ∷ _) = nat_eq letter first
 
 -- what JLS 3.8 calls an identifier, of ASCII units
 pub record IsIdentifier (units : List ℕ) : Type 0 where

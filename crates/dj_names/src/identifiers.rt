@@ -1,66 +1,9 @@
 //! Identifiers of Java in ASCII (JLS 3.8, 3.9).
 
-ghost use Rattle.std.specs.Prelude.{◌≡◌, ◌↔◌, ◌⊎◌, IsTrue, All, Contains, map};
-ghost use Rattle.dj_names.specs.Identifiers.{IsLetter, IsDigit, IsIdentifierChars, IsIdentifier, keywords, word_literals};
+ghost use Rattle.std.specs.Prelude.{◌≡◌, ◌↔◌, ◌⊎◌, ◌++◌, IsTrue, All, Contains, filter, map};
+ghost use Rattle.dj_names.specs.Identifiers.{IsLetter, IsDigit, IsIdentifierChars, IsIdentifier, begins_with, keywords, word_literals};
 
 use crate::units::Units;
-
-/// The words that no identifier is: the keywords of Java, and then its literals.
-const RESERVED: [&str; 53] = [
-    "abstract",
-    "continue",
-    "for",
-    "new",
-    "switch",
-    "assert",
-    "default",
-    "if",
-    "package",
-    "synchronized",
-    "boolean",
-    "do",
-    "goto",
-    "private",
-    "this",
-    "break",
-    "double",
-    "implements",
-    "protected",
-    "throw",
-    "byte",
-    "else",
-    "import",
-    "public",
-    "throws",
-    "case",
-    "enum",
-    "instanceof",
-    "return",
-    "transient",
-    "catch",
-    "extends",
-    "int",
-    "short",
-    "try",
-    "char",
-    "final",
-    "interface",
-    "static",
-    "void",
-    "class",
-    "finally",
-    "long",
-    "strictfp",
-    "volatile",
-    "const",
-    "float",
-    "native",
-    "super",
-    "while",
-    "true",
-    "false",
-    "null",
-];
 
 /// Whether the units are an identifier of Java in ASCII, and no reserved word.
 pub fn is_identifier(units: &Units) -> bool
@@ -104,7 +47,49 @@ pub fn is_digit(unit: u16) -> bool
 fn is_reserved(units: &[u16]) -> bool
     ensures reserved { IsTrue result ↔ (Contains keywords units.now ⊎ Contains word_literals units.now) }
 {
-    is_among(units, &RESERVED)
+    match units {
+        [first, ..] => is_among(units, reserved_by_first(*first)),
+        [] => false,
+    }
+}
+
+/// The keywords that begin with the letter, and then the literals that do.
+fn reserved_by_first(letter: u16) -> &'static [&'static str]
+    ensures words { map (λ word. word.now) result.now ≡ filter (begins_with letter) (keywords ++ word_literals) }
+{
+    match letter {
+        0x61 => &["abstract", "assert"],
+        0x62 => &["boolean", "break", "byte"],
+        0x63 => &["continue", "case", "catch", "char", "class", "const"],
+        0x64 => &["default", "do", "double"],
+        0x65 => &["else", "enum", "extends"],
+        0x66 => &["for", "final", "finally", "float", "false"],
+        0x67 => &["goto"],
+        0x69 => &[
+            "if",
+            "implements",
+            "import",
+            "instanceof",
+            "int",
+            "interface",
+        ],
+        0x6c => &["long"],
+        0x6e => &["new", "native", "null"],
+        0x70 => &["package", "private", "protected", "public"],
+        0x72 => &["return"],
+        0x73 => &[
+            "switch",
+            "synchronized",
+            "short",
+            "static",
+            "strictfp",
+            "super",
+        ],
+        0x74 => &["this", "throw", "throws", "transient", "try", "true"],
+        0x76 => &["void", "volatile"],
+        0x77 => &["while"],
+        _ => &[],
+    }
 }
 
 /// Whether the units are one of these words.
