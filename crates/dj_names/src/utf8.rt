@@ -15,7 +15,7 @@ pub fn read_units(alloc: Global, bytes: &[u8]) -> Result<Units, NameFault>
     ensures value { (units : List ℕ) → All IsUnit units → spell_units units ≡ bytes.now → GivesOnly (λ read. read) result units }
     ensures fault { IfErr result (λ fault. IsUnitsFault bytes.now fault) }
 {
-    let mut units = Vec::new(alloc);
+    let mut units = Vec::with_capacity(alloc, bytes.len())?;
     let mut at = 0;
     while at < bytes.len() {
         let Some((unit, size)) = read_unit(&bytes[at..]) else {
