@@ -1,4 +1,4 @@
--- The rules on expressions at worked examples (JLS 15): the first rule that is broken, or none, as Java compilers have it.
+-- The rules on expressions at worked examples (JLS 15): the first rule that is broken, or none. Java compilers say the same but of one, which says so.
 use Rattle.std.proofs.Common.{◌≡◌, ℕ, true, false, List, [], ◌∷◌, Option, Some, None, refl}
 use Rattle.std.specs.Prelude.{pos, codes}
 use Rattle.dj_names.specs.declared.header.Header.{Header}
