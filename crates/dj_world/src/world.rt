@@ -76,6 +76,14 @@ impl World {
         self.members.members()
     }
 
+    /// The members of each class, in the order of the headers, as calls and names are looked up in them.
+    pub fn member_table(&self) -> &MemberTable
+        ensures members { result.now ≡ self.now.members }
+        ensures paired { length self.now.members ≡ length self.now.headers }
+    {
+        &self.members
+    }
+
     /// The method that is found from a class, if any is.
     pub fn find_method(
         &self,
