@@ -3,7 +3,7 @@ use Rattle.std.proofs.Common.{◌≡◌, ◌≢◌, ℕ, Bool, true, false, nat_
 use Rattle.std.specs.List.{AllByRecursion}
 use Rattle.std.proofs.lemmas.Bool.{false≢true}
 use Rattle.std.proofs.lemmas.Bool.Decides.{nat_tests}
-use Rattle.dj_names.specs.Identifiers.{begins_with, keywords, word_literals}
+use Rattle.dj_names.specs.Identifiers.{begins_with, keywords, reserved_by_first, word_literals}
 use Rattle.std.proofs.lemmas.List.{get_or-map, length-map, get_or_default}
 use Rattle.std.proofs.lemmas.List.Elements.{Contains-push, Contains-push_cases, Contains-append_cases, Contains-append_left, Contains-append_right}
 
@@ -34,7 +34,8 @@ either_list front back units = (
 )
 
 -- the words that begin with the letter, where the letter is known
-pub begins_same : (known letter : ℕ) → letter ≡ known → filter (begins_with known) (keywords ++ word_literals) ≡ filter (begins_with letter) (keywords ++ word_literals)
+pub begins_same : (known letter : ℕ) → letter ≡ known → filter (begins_with known) (keywords ++ word_literals) ≡ reserved_by_first letter
+unfolding reserved_by_first
 begins_same known letter is = ap (λ l. filter (begins_with l) (keywords ++ word_literals)) (sym is)
 
 -- a letter is none of these, by the test
@@ -47,7 +48,8 @@ none_in letter [] none = refl
 none_in letter (word ∷ words) (first, rest) = rw first (none_in letter words rest)
 
 -- no reserved word begins with another letter than these
-pub none_begins : (letter : ℕ) → letter ≢ 97 → letter ≢ 98 → letter ≢ 99 → letter ≢ 100 → letter ≢ 101 → letter ≢ 102 → letter ≢ 103 → letter ≢ 105 → letter ≢ 108 → letter ≢ 110 → letter ≢ 112 → letter ≢ 114 → letter ≢ 115 → letter ≢ 116 → letter ≢ 118 → letter ≢ 119 → [] ≡ filter (begins_with letter) (keywords ++ word_literals)
+pub none_begins : (letter : ℕ) → letter ≢ 97 → letter ≢ 98 → letter ≢ 99 → letter ≢ 100 → letter ≢ 101 → letter ≢ 102 → letter ≢ 103 → letter ≢ 105 → letter ≢ 108 → letter ≢ 110 → letter ≢ 112 → letter ≢ 114 → letter ≢ 115 → letter ≢ 116 → letter ≢ 118 → letter ≢ 119 → [] ≡ reserved_by_first letter
+unfolding reserved_by_first
 none_begins letter o97 o98 o99 o100 o101 o102 o103 o105 o108 o110 o112 o114 o115 o116 o118 o119 =
     let n97 = other_letter letter 97 o97 in
     let n98 = other_letter letter 98 o98 in
@@ -106,7 +108,8 @@ are_kept letter rest [] found = found
 are_kept letter rest (word ∷ words) found = keeps_step (begins_with letter word) word (filter (begins_with letter) words) words (letter ∷ rest) (begins_so letter rest word) (are_kept letter rest words) found
 
 -- a word is reserved where it is among the reserved words that begin with its first letter
-pub by_first : (units : List ℕ) → 1 ≤ length units → Contains (filter (begins_with (get_or units 0 0)) (keywords ++ word_literals)) units ↔ (Contains keywords units ⊎ Contains word_literals units)
+pub by_first : (units : List ℕ) → 1 ≤ length units → Contains (reserved_by_first (get_or units 0 0)) units ↔ (Contains keywords units ⊎ Contains word_literals units)
+unfolding reserved_by_first
 by_first [] some = absurd (omega arith)
 by_first (letter ∷ rest) some =
     let either = either_list keywords word_literals (letter ∷ rest) in

@@ -1,5 +1,5 @@
 -- Identifiers of Java in ASCII (JLS 3.8, 3.9, 3.10.3, 3.10.7).
-use Rattle.std.specs.Prelude.{◌≡◌, ◌≤◌, ℕ, ◌⊎◌, Bool, false, List, [], ◌∷◌, All, Contains, codes, nat_eq}
+use Rattle.std.specs.Prelude.{◌≡◌, ◌≤◌, ℕ, ◌⊎◌, Bool, false, List, [], ◌∷◌, ◌++◌, All, Contains, filter, codes, nat_eq}
 
 -- `A` to `Z`, `a` to `z`, `_` and `$`
 abbrev pub IsLetter : ℕ → Type 0
@@ -37,6 +37,10 @@ word_literals = codes "true" ∷ codes "false" ∷ codes "null" ∷ []
 abbrev pub begins_with : ℕ → List ℕ → Bool
 begins_with letter [] = false
 begins_with letter (first ∷ _) = nat_eq letter first
+
+-- the keywords and then the literals that begin with the letter
+unfoldable pub reserved_by_first : ℕ → List (List ℕ)
+reserved_by_first letter = filter (begins_with letter) (keywords ++ word_literals)
 
 -- what JLS 3.8 calls an identifier, of ASCII units
 pub record IsIdentifier (units : List ℕ) : Type 0 where

@@ -1,7 +1,7 @@
 //! Identifiers of Java in ASCII (JLS 3.8, 3.9).
 
-ghost use Rattle.std.specs.Prelude.{◌≡◌, ◌↔◌, ◌⊎◌, ◌++◌, IsTrue, All, Contains, filter, map};
-ghost use Rattle.dj_names.specs.Identifiers.{IsLetter, IsDigit, IsIdentifierChars, IsIdentifier, begins_with, keywords, word_literals};
+ghost use Rattle.std.specs.Prelude.{◌≡◌, ◌↔◌, ◌⊎◌, IsTrue, All, Contains, map};
+ghost use Rattle.dj_names.specs.Identifiers.{IsLetter, IsDigit, IsIdentifierChars, IsIdentifier, keywords, reserved_by_first, word_literals};
 
 use crate::units::Units;
 
@@ -55,7 +55,7 @@ fn is_reserved(units: &[u16]) -> bool
 
 /// The keywords that begin with the letter, and then the literals that do.
 fn reserved_by_first(letter: u16) -> &'static [&'static str]
-    ensures words { map (λ word. word.now) result.now ≡ filter (begins_with letter) (keywords ++ word_literals) }
+    ensures words { map (λ word. word.now) result.now ≡ reserved_by_first letter }
 {
     match letter {
         0x61 => &["abstract", "assert"],
