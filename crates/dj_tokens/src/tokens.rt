@@ -53,12 +53,17 @@ pub enum Token {
     Synchronized,
 }
 
-/// What a word is.
+/// What a word is. The separators that come most are told first.
 pub fn token_of(word: &[u8]) -> Token
     ensures token { result ≡ token_of word.now }
 {
     match word {
         [] => Token::Name,
+        [b'(', ..] => Token::Open,
+        [b')', ..] => Token::Close,
+        [b',', ..] => Token::Comma,
+        [b'.', ..] => Token::Dot,
+        [b';', ..] => Token::Semicolon,
         [first, ..] if is_digit(*first) => Token::Number,
         [first, ..] if is_letter(*first) => word_of(word),
         [first, ..] if is_operator(*first) => sign_of(word),

@@ -1,6 +1,6 @@
 //! A text as words, read one after another.
 
-ghost use Rattle.std.specs.Prelude.{◌≡◌, ◌≤◌, ◌+◌, ◌↔◌, [], take, drop, length, false, true, IsTrue};
+ghost use Rattle.std.specs.Prelude.{◌≡◌, ◌≢◌, ◌≤◌, ◌+◌, ◌↔◌, [], take, drop, length, false, true, IsTrue, IfSome, IfNone};
 ghost use Rattle.std.specs.List.{take_while};
 ghost use Rattle.dj_tokens.specs.Words.{words, first_word, other_words, comes, is_word, is_digit, is_letter, is_operator, is_blank, is_quote, begins, literal_length};
 
@@ -54,6 +54,22 @@ impl<'a> Reader<'a> {
         let end = word_end(text);
         self.text = &text[end..];
         &text[..end]
+    }
+
+    /// The first word, behind which the reader goes on, where a word is left.
+    pub fn take_next(&mut self) -> Option<&'a [u8]>
+        ensures first { IfSome result (λ word. word.now ≡ first_word self.old) }
+        ensures rest { IfSome result (λ _. self.new ≡ other_words self.old) }
+        ensures left { IfSome result (λ _. self.old ≢ []) }
+        ensures none { IfNone result (self.old ≡ []) }
+    {
+        let text = past_blanks(self.text);
+        if text.is_empty() {
+            return None;
+        }
+        let end = word_end(text);
+        self.text = &text[end..];
+        Some(&text[..end])
     }
 
     /// Goes on behind so many words.
