@@ -7,7 +7,7 @@ mod questions;
 mod types;
 
 use anyhow::Result;
-use dj_class::read_class;
+use dj_class::{ClassFile, read_class};
 use dj_world::{AddFault, World};
 use std::alloc::Global;
 use std::io;
@@ -19,22 +19,32 @@ const OLDEST: u16 = 45;
 /// How many fields a class file has at most, how many methods, and how many classes are added here.
 const MOST: usize = 65_535;
 
-fn add(alloc: Global, world: &mut World, line: &str) -> Result<String> {
-    let bytes = hex::decode(alloc, line.as_bytes())?;
-    let Ok(class) = read_class(alloc, bytes.as_slice(), OLDEST) else {
-        return Ok(format!(in alloc; "broken")?);
-    };
+/// Adds a class, where there are few.
+fn add_class(alloc: Global, world: &mut World, class: &ClassFile) -> Result<String> {
     if world.members().classes.len() > MOST
         || class.fields.len() > MOST
         || class.methods.len() > MOST
     {
         return Ok(format!(in alloc; "many")?);
     }
-    match world.add(&class) {
+    match world.add(class) {
         Ok(()) => Ok(format!(in alloc; "added")?),
         Err(AddFault::Clash(kind)) => Ok(format!(in alloc; "clash {kind:?}")?),
         Err(AddFault::Memory(_)) => Ok(format!(in alloc; "memory")?),
     }
+}
+
+/// Adds the class that the bytes are.
+fn add_bytes(alloc: Global, world: &mut World, bytes: &[u8]) -> Result<String> {
+    match read_class(alloc, bytes, OLDEST) {
+        Ok(class) => add_class(alloc, world, &class),
+        Err(_) => Ok(format!(in alloc; "broken")?),
+    }
+}
+
+fn add(alloc: Global, world: &mut World, line: &str) -> Result<String> {
+    let bytes = hex::decode(alloc, line.as_bytes())?;
+    add_bytes(alloc, world, bytes.as_slice())
 }
 
 fn fill(alloc: Global, world: &mut World) -> Result<String> {

@@ -4,11 +4,12 @@
 use crate::types::{DescriptorText, TypeText};
 use anyhow::Result;
 use dj_headers::is_assignable;
-use dj_kinds::{Kinds, MemberTable, choose};
+use dj_kinds::Kinds;
 use dj_names::{
     ClassMembers, ClassName, Descriptor, Header, Items, JType, Member, StaticType, Units,
     read_descriptor, read_units,
 };
+use dj_types::resolve_call;
 use dj_world::World;
 use std::alloc::Global;
 
@@ -171,26 +172,6 @@ fn checked(alloc: Global, world: &World, words: &[&str]) -> Result<String> {
     yes_or_no(alloc, kinds.checked(&class))
 }
 
-/// Adds the members of a class, where there are few.
-fn push_members(table: &mut MemberTable, class: ClassMembers) -> Result<()> {
-    if table.members().classes.len() < MOST
-        && class.fields.len() < MOST
-        && class.methods.len() < MOST
-    {
-        table.push(class)?;
-    }
-    Ok(())
-}
-
-/// The members of a world with tables of their names.
-fn table_of(alloc: Global, world: &World) -> Result<MemberTable> {
-    let mut table = MemberTable::new(alloc);
-    for class in world.members().classes.as_slice() {
-        push_members(&mut table, class.copy(alloc)?)?;
-    }
-    Ok(table)
-}
-
 /// A call: where it stands, in which type and through which the method is searched for, its name and the arguments.
 #[derive(Drop)]
 struct Call {
@@ -205,20 +186,24 @@ fn call_of(alloc: Global, words: &[&str]) -> Result<Option<Call>> {
     let [from, receiver, through, name, arguments @ ..] = words else {
         return Ok(None);
     };
+    let from = class_of(alloc, from)?;
+    let receiver = type_of(alloc, receiver)?;
+    let through = through_of(alloc, through)?;
+    let name = units_of(alloc, name)?;
+    let arguments = static_types_of(alloc, arguments)?;
     Ok(Some(Call {
-        from: class_of(alloc, from)?,
-        receiver: type_of(alloc, receiver)?,
-        through: through_of(alloc, through)?,
-        name: units_of(alloc, name)?,
-        arguments: static_types_of(alloc, arguments)?,
+        from,
+        receiver,
+        through,
+        name,
+        arguments,
     }))
 }
 
 /// The method that a call means.
-fn chosen(world: &World, table: &MemberTable, call: &Call) -> Option<Member> {
-    choose(
-        world.headers(),
-        table,
+fn chosen(world: &World, call: &Call) -> Option<Member> {
+    resolve_call(
+        world,
         &call.from,
         &call.receiver,
         call.through.as_ref(),
@@ -228,9 +213,8 @@ fn chosen(world: &World, table: &MemberTable, call: &Call) -> Option<Member> {
 }
 
 fn choose_method(alloc: Global, world: &World, words: &[&str]) -> Result<Option<Member>> {
-    let table = table_of(alloc, world)?;
     match call_of(alloc, words)? {
-        Some(call) => Ok(chosen(world, &table, &call)),
+        Some(call) => Ok(chosen(world, &call)),
         None => Ok(None),
     }
 }
