@@ -4,6 +4,7 @@ pub mod Pushed
 pub mod NameTests
 pub mod Zips
 pub mod Utf8Exact
+pub mod Units
 pub mod PoolIsExact
 pub mod PoolIsFiner
 pub mod PoolTables

@@ -7,12 +7,16 @@ use Rattle.std.proofs.lemmas.List.Elements.{filter-append}
 use Rattle.std.proofs.lemmas.List.Sums.{sum_by_push, sum_by-cons}
 use Rattle.std.proofs.lemmas.Grind.{flat_map-append}
 use Rattle.dj_layout.specs.declared.fault.Stop.{Stop}
-use Rattle.dj_layout.specs.Layout.{Layout, Spells, Stops}
+use Rattle.dj_layout.specs.Layout.{Layout, Spells, SpellsSome, SpellsAny, Stops}
+use Rattle.dj_layout.specs.Parts.{exactly, tested}
+use Rattle.dj_layout.proofs.PartsAreTotal.{together}
 use Rattle.dj_layout.proofs.Sequences.{IsRead, read_none, read_more, read_stop, read_all}
 use Rattle.dj_pool.specs.declared.fault.BrokenKind.{BrokenKind}
+use Rattle.dj_pool.specs.declared.fault.BrokenKind.TheVariants as kind
 use Rattle.dj_pool.specs.declared.entry.Entry.{Entry}
 use Rattle.dj_pool.specs.declared.entry.Entry.TheVariants as entry
-use Rattle.dj_pool.specs.PoolFormat.{tag_of, places, is_tag, spread, isnt_skip, places_of, spell_entry, entry_within, entries}
+use Rattle.dj_pool.specs.SharedParts.{u2}
+use Rattle.dj_pool.specs.PoolFormat.{tag_of, units_of, text, behind, content_of, tag_within, places, is_tag, spread, isnt_skip, places_of, spell_entry, entry_within, entries, pool}
 use Rattle.dj_pool.proofs.PoolIsExact.{spelled_alike}
 
 -- entries that take all of so many indices
@@ -88,3 +92,54 @@ pub pool_all : (given : Option (List Entry)) (n : ℕ) (bytes rest : List ℕ) (
 pool_all given n bytes rest found room r none =
     let spells = read_all spell_entry (enough n) (next given n) bytes rest (filter isnt_skip found) r.read (all n (places_of (filter isnt_skip found)) room r.left none) in
     record { fits = (spells.fits, sym r.shape); text = spells.text }
+
+-- ---- where the entries aren't kept
+
+-- some entries are read by index, and so many indices are left
+pub record IsPoolPassed (given : Option (List Entry)) (n : ℕ) (bytes rest : List ℕ) (room : ℕ) : Type 0 where
+  pub found : List Entry
+  pub read : IsPoolRead given n bytes found rest room
+
+pub none_passed : (given : Option (List Entry)) (n : ℕ) (bytes : List ℕ) → IsPoolPassed given n bytes bytes n
+none_passed given n bytes = record { found = entry.Skip ∷ []; read = none_read given n bytes }
+
+-- one more entry
+pub passed_more : (given : Option (List Entry)) (n : ℕ) (bytes rest after : List ℕ) (room taken : ℕ) → IsPoolPassed given n bytes rest room → 0 < room
+    → SpellsSome (entry_within given room) (λ x count. places (tag_of x) ≡ count) rest taken after → IsPoolPassed given n bytes after (room - taken)
+passed_more given n bytes rest after room taken r some one =
+    record { found = r.found ++ spread one.value; read = rw (← one.means) (pool_more given n bytes rest after r.found (r.found ++ spread one.value) room one.value r.read some one.spells refl) }
+
+-- no index is left
+pub passed_all : (given : Option (List Entry)) (n : ℕ) (bytes rest : List ℕ) (room : ℕ) → IsPoolPassed given n bytes rest room → room ≤ 0 → SpellsAny (entries given n) bytes rest
+passed_all given n bytes rest room r none = record { value = r.found; spells = pool_all given n bytes rest r.found room r.read none }
+
+-- ---- the parts of an entry and of a pool
+
+-- a text is what stands behind the tag 1
+pub text_behind : (given : Option (List Entry)) (tag : ℕ) (bytes rest : List ℕ) → tag ≡ 1 → SpellsAny text bytes rest → SpellsSome (behind given tag (content_of tag)) (λ x of. tag_of x ≡ of) bytes tag rest
+text_behind given tag bytes rest is found = rw is (record {
+  value = entry.Utf8 found.value;
+  spells = together units_of text (λ x. exactly (entry.Utf8 x)) found.value (entry.Utf8 found.value) bytes rest rest refl found.spells (record { fits = refl; text = refl });
+  means = refl;
+})
+
+-- a tag, and what stands behind it
+pub entry_there : (given : Option (List Entry)) (room tag : ℕ) (bytes mid rest : List ℕ) → Spells (tag_within room) bytes tag mid → SpellsSome (behind given tag (content_of tag)) (λ x of. tag_of x ≡ of) mid tag rest
+    → SpellsSome (entry_within given room) (λ x count. places (tag_of x) ≡ count) bytes (places tag) rest
+entry_there given room tag bytes mid rest first others = record {
+  value = others.value;
+  spells = together tag_of (tag_within room) (λ t. behind given t (content_of t)) tag others.value bytes mid rest others.means first others.spells;
+  means = ap places others.means;
+}
+
+one_more : (count places_taken : ℕ) → IsTrue (nat_le 1 count) → IsTrue (places_taken == (count - 1)) → 1 + places_taken ≡ count
+one_more count places_taken some is = grind (arith, nat_tests)
+
+-- a count, and the entries that it counts
+pub pool_there : (given : Option (List Entry)) (count : ℕ) (bytes mid rest : List ℕ) → Spells (tested u2 (λ count. nat_le 1 count) kind.Index) bytes count mid → SpellsAny (entries given (count - 1)) mid rest → SpellsAny (pool given) bytes rest
+pool_there given count bytes mid rest first others =
+    let shape = ap length others.spells.fits.1 in
+    let spread_long = length-spread (filter isnt_skip others.value) in
+    let counted = one_more count (places_of (filter isnt_skip others.value)) first.fits.1 others.spells.fits.0.1 in
+    let long : length others.value ≡ count = omega (arith, shape, spread_long, counted) in
+    record { value = others.value; spells = together length (tested u2 (λ count. nat_le 1 count) kind.Index) (λ n. entries given (n - 1)) count others.value bytes mid rest long first others.spells }

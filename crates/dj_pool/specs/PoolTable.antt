@@ -1,10 +1,11 @@
--- What is kept of each text of a pool, so that it is judged once, and which entries have two indices.
-use Rattle.std.specs.Prelude.{◌↔◌, ℕ, List, Option, Some, None, Bool, true, false, ◌||◌, ◌&&◌, ◌==◌, nat_le, IsTrue, IsSomeAnd}
+-- What is kept of each text of a pool, so that it is judged once, which entries have two indices, and which bytes are units.
+use Rattle.std.specs.Prelude.{◌≡◌, ◌↔◌, ℕ, List, ◌++◌, All, Option, Some, None, Bool, true, false, ◌||◌, ◌&&◌, ◌==◌, nat_le, IsTrue, IsSomeAnd}
 use Rattle.std.specs.List.{AllZip}
 use Rattle.dj_names.specs.declared.descriptor.Descriptor as code_descriptor
 use Rattle.dj_names.specs.Types.{JType, Boolean, Byte, Char, Short, Int, Long, Float, Double, Class, Array, Descriptor, view_descriptor}
 use Rattle.dj_names.specs.ClassNames.{IsClassName}
 use Rattle.dj_names.specs.Descriptors.{SpellsDescriptor}
+use Rattle.dj_names.specs.Utf8.{IsUnit, spell_units}
 use Rattle.dj_pool.specs.declared.entry.Entry.{Entry}
 use Rattle.dj_pool.specs.declared.parsed.Parsed.{Parsed}
 use Rattle.dj_pool.specs.PoolFormat.{text_of}
@@ -39,3 +40,9 @@ is_array_type (Array element) = true
 -- the tags of the entries of two indices
 abbrev pub is_pair : ℕ → Bool
 is_pair tag = (nat_le 9 tag && nat_le tag 12) || (tag == 18)
+
+-- the bytes begin with units in modified UTF-8, and then comes the rest (JVMS 4.4.7)
+pub record BeginsWithUnits (bytes rest : List ℕ) : Type 0 where
+  pub units : List ℕ
+  pub are_units : All IsUnit units
+  pub text : bytes ≡ spell_units units ++ rest

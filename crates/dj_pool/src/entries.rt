@@ -19,7 +19,7 @@ use dj_names::{Items, NameFault, Units, read_units};
 use std::alloc::Global;
 
 /// Units in `n` bytes.
-fn utf8_at(
+pub fn utf8_at(
     alloc: Global,
     n: u16,
     bytes: &[u8],

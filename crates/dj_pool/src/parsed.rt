@@ -51,7 +51,7 @@ fn parsed_of(alloc: Global, entry: &Entry) -> Result<Parsed, AllocError>
 pub fn parsed_table(alloc: Global, entries: &[Entry]) -> Result<Vec<Parsed>, AllocError>
     ensures table { IfOk result (λ table. IsTable entries.now table.items) }
 {
-    let mut table = Vec::new(alloc);
+    let mut table = Vec::with_capacity(alloc, entries.len())?;
     for entry in entries {
         let parsed = parsed_of(alloc, entry)?;
         table.push(parsed)?;

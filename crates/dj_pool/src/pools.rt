@@ -20,7 +20,7 @@ use dj_names::Items;
 use std::alloc::{AllocError, Global};
 
 /// What follows a tag of an entry.
-fn behind_at<'a>(
+pub fn behind_at<'a>(
     alloc: Global,
     given: Option<&Pool>,
     tag: u8,
@@ -87,7 +87,7 @@ fn entries_at<'a>(
     ensures reads { Reads (entries (option_copied given.entry) count) (λ x. (x.0, x.1.now)) end bytes.now result }
     ensures filled { IfOk result (λ x. length x.0 ≡ count + 1) }
 {
-    let mut found = Items::new(alloc);
+    let mut found = Items::from_vec(Vec::with_capacity(alloc, usize::from(count) + 1)?);
     found.push(Entry::Skip)?;
     let mut rest = bytes;
     let mut room = count;
@@ -100,7 +100,7 @@ fn entries_at<'a>(
 }
 
 /// The count of a pool.
-fn count_at(bytes: &[u8], end: usize) -> Result<(u16, &[u8]), Stop<BrokenKind>>
+pub fn count_at(bytes: &[u8], end: usize) -> Result<(u16, &[u8]), Stop<BrokenKind>>
     ensures reads { Reads (tested u2 (λ count. nat_le 1 count) Index) (λ x. (x.0, x.1.now)) end bytes.now result }
 {
     let (count, rest) = u16_at(bytes, end, BrokenKind::Short)?;
