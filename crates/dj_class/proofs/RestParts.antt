@@ -1,5 +1,5 @@
 -- Parts of a class file that are read one after the other are the whole.
-use Rattle.std.proofs.Common.{◌≡◌, ℕ, List, [], ◌++◌, refl, sym, ap, subst, ◌∙◌, append_assoc, length, ◌==◌, IsTrue, arith}
+use Rattle.std.proofs.Common.{◌≡◌, ℕ, List, [], ◌++◌, Option, refl, sym, ap, subst, ◌∙◌, append_assoc, length, ◌==◌, IsTrue, arith}
 use Rattle.std.proofs.lemmas.Bool.Decides.{nat_tests}
 use Rattle.std.proofs.lemmas.List.{append-nil}
 use Rattle.dj_layout.specs.Layout.{Layout, Spells}
@@ -10,8 +10,8 @@ use Rattle.dj_pool.specs.declared.fault.BrokenKind.TheVariants as kind
 use Rattle.dj_pool.specs.declared.raw.Attribute.{Attribute}
 use Rattle.dj_class.specs.Members.{RawMember, member}
 use Rattle.dj_pool.specs.SharedParts.{u2, counted, attribute}
-use Rattle.dj_pool.specs.PoolFormat.{IsClassIndex}
-use Rattle.dj_class.specs.FileFormat.{magic}
+use Rattle.dj_pool.specs.PoolFormat.{IsClassIndex, pool}
+use Rattle.dj_class.specs.FileFormat.{magic, major, front}
 use Rattle.dj_pool.specs.declared.entry.Entry.{Entry}
 use Rattle.dj_class.specs.declared.front.Front.{Front}
 use Rattle.dj_class.specs.FileFormat.{Own, Listed, Rest, plain_own, plain_listed, rest_of, file_of, HasClassFlags, IsSuperIndex, lawful_own}
@@ -64,6 +64,11 @@ rest_spelled of_own of_listed bytes r s own listed p q = record { fits = (p.fits
 
 the_magic : (bytes r : List ℕ) (m : ℕ) → Spells magic bytes m r → m ≡ 3405691582
 the_magic bytes r m p = let same : IsTrue (m == 3405691582) = p.fits.1 in grind (arith, nat_tests)
+
+pub front_spelled : (oldest : ℕ) (given : Option (List Entry)) (bytes r s t : List ℕ) (minor_version major_version : ℕ) (found : List Entry) → Spells u2 bytes minor_version r → Spells (major oldest) r major_version s → Spells (pool given) s found t
+    → Spells (front oldest given) bytes (record { minor = minor_version; major = major_version; pool = found }) t
+front_spelled oldest given bytes r s t minor_version major_version found p q w =
+    record { fits = (p.fits, (q.fits, (w.fits, refl))); text = three_texts bytes r s t (u2.spell minor_version) ((major oldest).spell major_version) ((pool given).spell found) p.text q.text w.text }
 
 pub file_spelled : (of_front : Layout BrokenKind Front) (of_rest : Layout BrokenKind Rest) (bytes r s t : List ℕ) (m : ℕ) (front : Front) (rest : Rest) → Spells magic bytes m r → Spells of_front r front s → Spells of_rest s rest t
     → Spells (file_of of_front of_rest) bytes (record { front = front; rest = rest }) t

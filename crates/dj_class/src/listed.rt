@@ -1,17 +1,17 @@
 //! What follows the pool of a class file, by what its indices lead to (JVMS 4.1).
 
-ghost use Rattle.std.specs.Prelude.{◌≡◌, map, Some};
+ghost use Rattle.std.specs.Prelude.{◌≡◌, map};
 ghost use Rattle.std.specs.List.{AllZip};
 ghost use Rattle.dj_layout.specs.Layout.{ReadsAs, Skips};
 ghost use Rattle.dj_layout.specs.Parts.{times};
 ghost use Rattle.dj_pool.specs.SharedParts.{counted};
 ghost use Rattle.dj_class.specs.Views.{view_field, view_method};
-ghost use Rattle.dj_class.specs.FileFormat.{named, front, field, method, lawful_listed, lawful_rest, sound};
+ghost use Rattle.dj_class.specs.FileFormat.{named, field, method, lawful_listed, lawful_rest, sound};
 ghost use Rattle.dj_class.specs.Described.{DescribesField, DescribesMethod};
 ghost use Rattle.dj_class.specs.FileParts.{DescribesListed, DescribesRest, view_members};
 
 use crate::attributes::named_at;
-use crate::front::{front_at, magic_at};
+use crate::front::{magic_at, skip_front};
 use crate::members::{field_at, method_at};
 use crate::method::Method;
 use crate::own::{OwnNames, classes_at, own_at};
@@ -159,20 +159,6 @@ fn rest_at<'a>(
     Ok(((own, members), rest))
 }
 
-/// The versions and the pool, whose indices are looked up in this pool.
-fn skip_front<'a>(
-    alloc: Global,
-    oldest: u16,
-    pool: &Pool,
-    bytes: &'a [u8],
-    end: usize,
-) -> Result<&'a [u8], Stop<BrokenKind>>
-    ensures reads { Skips (front oldest (Some pool.now)) (λ x. x.now) end bytes.now result }
-{
-    let (_front, rest) = front_at(alloc, oldest, Some(pool), bytes, end)?;
-    Ok(rest)
-}
-
 /// A class file with this pool, of which what follows the pool is kept.
 pub fn sound_at<'a>(
     alloc: Global,
@@ -184,7 +170,6 @@ pub fn sound_at<'a>(
     ensures reads { ReadsAs (sound oldest pool.now) (λ raw found. DescribesRest pool.now raw.rest found) (λ x. ((x.0.0, view_members x.0.1), x.1.now)) end bytes.now result }
 {
     let (_magic, rest) = magic_at(bytes, end)?;
-    // The pool that is read again is let go before the rest is read.
     let rest = skip_front(alloc, oldest, pool, rest, end)?;
     let (found, rest) = rest_at(alloc, pool, rest, end)?;
     Ok((found, rest))
