@@ -1,12 +1,13 @@
 -- One step at a time up the superclasses.
-use Rattle.std.proofs.Common.{◌≡◌, ℕ, zero, suc, ◌+◌, ◌<◌, ◌≤◌, List, [], ◌∷◌, length, get_or, slice_get, Option, Some, None, Contains, Bor, refl, sym, ap, subst, inl, inr, ◌∙◌, arith}
+use Rattle.std.proofs.Common.{◌≡◌, ℕ, zero, suc, ◌+◌, ◌<◌, ◌≤◌, List, [], ◌∷◌, length, get_or, slice_get, Option, Some, None, Any, Contains, ◌↔◌, ◌==◌, IsTrue, IsBitSet, bit_and, not, Bor, refl, sym, ap, subst, inl, inr, ◌∙◌, arith}
 use Rattle.std.specs.Prelude.{IsSomeAnd}
 use Rattle.std.specs.Option.{option_copied}
 use Rattle.std.proofs.lemmas.Bool.{cases_order}
+use Rattle.std.proofs.lemmas.Bool.Decides.{nat_tests}
 use Rattle.std.proofs.lemmas.List.{get_or-map, length-map}
 use Rattle.std.proofs.lemmas.Option.{slice_get_within, get_or_from_slice_get, same_Some}
 use Rattle.dj_names.specs.declared.header.Header.{Header}
-use Rattle.dj_names.specs.Headers.{Name, names, HasDistinctNames, HasSuperclass, IsPath, IsSubclass}
+use Rattle.dj_names.specs.Headers.{Name, names, HasDistinctNames, HasSuperclass, IsInterface, IsPath, IsSubclass}
 use Rattle.dj_names.proofs.PathLemmas.{short_subclass}
 use Rattle.dj_tags.specs.Laxly.{IsUnknown, HasUnknownAbove}
 
@@ -23,14 +24,14 @@ same_place headers distinct i j d i_in j_in same = elim (cases_order i j) [
   | inr (inr above) ↦ absurd (distinct j i d above i_in (sym same))
 ]
 
--- the superclass that the header of a class names is the only one
-pub one_superclass : (headers : List Header) → HasDistinctNames headers → (at : ℕ) (header : Header) (class other : Name) → at < length headers → get_or headers at header ≡ header → header.name ≡ class → HasSuperclass headers class other
-    → header.superclass ≡ Some other
-one_superclass headers distinct at header class other within is named (k, found, k_in, k_is, both) =
+-- what some header of a class has, its header at a place has, since no two are of one class
+one_header : (headers : List Header) → HasDistinctNames headers → (at : ℕ) (header : Header) (class : Name) (Has : Header → Type 0) → at < length headers → get_or headers at header ≡ header → header.name ≡ class
+    → Any (λ (h : Header). (h.name ≡ class) × Has h) headers → Has header
+one_header headers distinct at header class Has within is named (k, found, k_in, k_is, both) =
     let names_agree : (get_or headers at header).name ≡ (get_or headers k header).name = ap (λ (h : Header). h.name) is ∙ named ∙ sym both.0 ∙ sym (ap (λ (h : Header). h.name) (other_default headers k found header k_in k_is)) in
     let at_k : at ≡ k = same_place headers distinct at k header within k_in names_agree in
     let same : header ≡ found = sym is ∙ ap (λ n. get_or headers n header) at_k ∙ other_default headers k found header k_in k_is in
-    ap (λ (h : Header). h.superclass) same ∙ both.1
+    subst Has (sym same) both.1
   where
     other_default : (headers : List Header) (k : ℕ) (found d : Header) → k < length headers → get_or headers k found ≡ found → get_or headers k d ≡ found
     other_default [] k found d within is = absurd (omega arith)
@@ -95,18 +96,49 @@ module _ (headers : List Header) (start : Name) where
           none [] same few = subst (IsUnknown headers) (sym same) above.unknown
           none (n ∷ path) is few = absurd (omega arith)
 
--- the superclass that the header at a class's place names
-pub superclass_at : (headers : List Header) → HasDistinctNames headers → (at : ℕ) (d : Header) (class other : Name) → slice_get (names headers) at ≡ Some class → HasSuperclass headers class other → (get_or headers at d).superclass ≡ Some other
-superclass_at headers distinct at d class other there has =
-    let within : at < length headers = omega (arith, slice_get_within (names headers) at class there, length-map headers (λ (h : Header). h.name)) in
+-- what a header is, whatever stands beyond the list
+defaults : (headers : List Header) (at : ℕ) → at < length headers → (d e : Header) → get_or headers at e ≡ get_or headers at d
+defaults [] at within d e = absurd (omega arith)
+defaults (h ∷ headers) zero within d e = refl
+defaults (h ∷ headers) (suc at) within d e = defaults headers at (omega arith) d e
+
+-- the place of a class is that of a header
+pub place_within : (headers : List Header) (at : ℕ) (class : Name) → slice_get (names headers) at ≡ Some class → at < length headers
+place_within headers at class there = omega (arith, slice_get_within (names headers) at class there, length-map headers (λ (h : Header). h.name))
+
+-- a class that has a place is known
+pub known_at : (headers : List Header) (at : ℕ) (class : Name) → slice_get (names headers) at ≡ Some class → Contains (names headers) class
+known_at headers at class there = (at, slice_get_within (names headers) at class there, get_or_from_slice_get (names headers) at class class there)
+
+-- a class is below itself
+pub same_is_below : (headers : List Header) (lower upper : Name) → lower ≡ upper → IsSubclass headers lower upper
+same_is_below headers lower upper same = record { path = []; is_path = same }
+
+-- some header of a class has what the header at the class's place has
+pub has_at : (headers : List Header) → HasDistinctNames headers → (at : ℕ) (d : Header) (class : Name) (Has : Header → Type 0) → slice_get (names headers) at ≡ Some class → Has (get_or headers at d) ↔ Any (λ (h : Header). (h.name ≡ class) × Has h) headers
+has_at headers distinct at d class Has there =
+    let within = place_within headers at class there in
     let header : Header = get_or headers at d in
     let named : header.name ≡ class = sym (get_or-map (λ (h : Header). h.name) headers at d class within) ∙ get_or_from_slice_get (names headers) at class class there in
-    one_superclass headers distinct at header class other within (defaults headers at within d header) named has
-  where
-    defaults : (headers : List Header) (at : ℕ) → at < length headers → (d e : Header) → get_or headers at e ≡ get_or headers at d
-    defaults [] at within d e = absurd (omega arith)
-    defaults (h ∷ headers) zero within d e = refl
-    defaults (h ∷ headers) (suc at) within d e = defaults headers at (omega arith) d e
+    let stands : get_or headers at header ≡ header = defaults headers at within d header in
+    (λ has. (at, header, within, stands, (named, has)), λ some. one_header headers distinct at header class Has within stands named some)
+
+-- a test of bits and what it tells
+set_bits : (n : ℕ) → IsTrue (not (n == 0)) → n ≡ 0 → ⊥
+set_bits n is none = grind (arith, nat_tests)
+
+bits_set : (n : ℕ) → (n ≡ 0 → ⊥) → IsTrue (not (n == 0))
+bits_set n some = grind (arith, nat_tests)
+
+-- whether the header at a class's place is an interface's
+pub interface_at : (headers : List Header) → HasDistinctNames headers → (at : ℕ) (d : Header) (class : Name) → slice_get (names headers) at ≡ Some class → IsTrue (not (bit_and (get_or headers at d).flags 512 == 0)) ↔ IsInterface headers class
+interface_at headers distinct at d class there =
+    let some = has_at headers distinct at d class (λ (h : Header). IsBitSet h.flags 9) there in
+    (λ bit. some.0 (set_bits (bit_and (get_or headers at d).flags 512) bit), λ is. bits_set (bit_and (get_or headers at d).flags 512) (some.1 is))
+
+-- the superclass that the header at a class's place names
+pub superclass_at : (headers : List Header) → HasDistinctNames headers → (at : ℕ) (d : Header) (class other : Name) → slice_get (names headers) at ≡ Some class → HasSuperclass headers class other → (get_or headers at d).superclass ≡ Some other
+superclass_at headers distinct at d class other there has = (has_at headers distinct at d class (λ (h : Header). h.superclass ≡ Some other) there).1 has
 
 pub copied_some : (result : Option (Bor Name)) (other : Name) → option_copied result ≡ Some other → IsSomeAnd result (λ upper. other ≡ upper.now)
 copied_some None other is = absurd (cc)

@@ -1,13 +1,16 @@
 //! The two relations between references: the machine's and Java's (JVMS 4.10.1.2; JLS 4.10).
 
-ghost use Rattle.std.specs.Prelude.{◌≡◌, ◌↔◌, ℕ, List, IsTrue, IfSome, IsSomeAnd};
+ghost use Rattle.std.specs.Prelude.{◌≡◌, ◌↔◌, ◌⊎◌, ◌<◌, ℕ, List, Some, IsTrue, IfSome, IsSomeAnd, length, slice_get};
 ghost use Rattle.dj_names.specs.Types.{Class, view_type};
-ghost use Rattle.dj_names.specs.Headers.{HasSuperclass};
+ghost use Rattle.dj_names.specs.Headers.{names, HasSuperclass, IsInterface, IsSubclass};
 ghost use Rattle.dj_tags.specs.Laxly.{IsUnknown, HasUnknownAbove, IsJavaAssignable};
 
 use crate::goes::Goes;
 use dj_headers::{Headers, is_above_arrays, is_reference, is_subtype};
 use dj_names::{ClassName, JType, same_type};
+
+/// ACC_INTERFACE.
+const INTERFACE: u16 = 0x0200;
 
 /// What the machine asks of references: it takes a class that it doesn't know for any other.
 pub struct Laxly<'a> {
@@ -49,14 +52,37 @@ fn has_unknown_above(headers: &Headers, class: &ClassName) -> bool
     is_unknown(headers, upper)
 }
 
+/// Whether the header at the place of a class is an interface's.
+fn is_interface_at(headers: &Headers, at: usize) -> bool
+    requires within { at < length headers.now }
+    ensures interface { (class : List ℕ) → slice_get (names headers.now) at ≡ Some class → IsTrue result ↔ IsInterface headers.now class }
+{
+    headers.as_slice()[at].flags & INTERFACE != 0
+}
+
+/// Whether a class is below another, or what is above it isn't known whole.
+fn is_below_or_unknown(headers: &Headers, from: &ClassName, to: &ClassName) -> bool
+    ensures goes { IsTrue result ↔ (IsSubclass headers.now from.now to.now ⊎ HasUnknownAbove headers.now from.now) }
+{
+    headers.is_subclass(from, to) || has_unknown_above(headers, from)
+}
+
 /// Whether the machine takes a reference of one class for one of the other.
 fn class_goes(headers: &Headers, from: &ClassName, to: &ClassName) -> bool
     ensures goes { IsTrue result ↔ IsJavaAssignable headers.now (Class from.now) (Class to.now) }
 {
-    if headers.is_subclass(from, to) || is_unknown(headers, to) {
+    if from == to {
         return true;
     }
-    headers.is_interface(to) || has_unknown_above(headers, from)
+    match headers.place(to) {
+        Some(at) => {
+            if is_interface_at(headers, at) {
+                return true;
+            }
+            is_below_or_unknown(headers, from, to)
+        }
+        None => true,
+    }
 }
 
 /// Whether the machine takes a reference of one type for one of the other.

@@ -1,34 +1,35 @@
-use Rattle.std.proofs.Common.{refl, inl, inr}
+use Rattle.std.proofs.Common.{refl, sym, ◌∙◌, inl, inr}
 use Rattle.std.proofs.lemmas.Bool.{both_ways}
+use Rattle.std.proofs.lemmas.Slice.Eq.{bytes_eq-Decides}
 use Rattle.dj_tags.specs.Laxly.{subclass, interface, from_unknown, to_unknown}
 use Rattle.dj_tags.proofs.Assignable.{class_way}
+use Rattle.dj_tags.proofs.Superclasses.{same_is_below, place_within, known_at}
 use Rattle.dj_tags.proofs.relations.class_goes.Goals as goal
-use Rattle.dj_tags.proofs.relations.class_goes.Goals.{then-is_subclass-via-then-is_subclass, then-is_subclass-via-else-is_subclass+then-is_unknown}
 
-pub returns-then-is_subclass : goal.returns-then-is_subclass
-returns-then-is_subclass c = record {
-  goes = (
-    λ yes. elim c.then-is_subclass.branch [
-      | then-is_subclass-via-then-is_subclass w ↦ subclass (c.is_subclass.ensures.subclass.0 w.if-is_subclass.true)
-      | then-is_subclass-via-else-is_subclass+then-is_unknown w ↦ to_unknown (w.is_unknown.ensures.unknown.0 w.if-is_unknown.true)
-    ],
-    λ goes. refl,
-  );
-}
+pub returns-then-eq : goal.returns-then-eq
+returns-then-eq c =
+    record { goes = (λ always. subclass (same_is_below c.args.headers.now c.args.from.now c.args.to.now ((bytes_eq-Decides c.args.from.now c.args.to.now).0 (sym c.eq.ensures ∙ c.if-eq.true))), λ goes. refl) }
 
-pub returns-then-is_interface : goal.returns-then-is_interface
-returns-then-is_interface c = record { goes = (λ yes. interface (c.is_interface.ensures.interface.0 yes), λ goes. c.if-is_interface.true) }
+pub is_interface_at-requires : goal.is_interface_at-requires
+is_interface_at-requires c = record { within = place_within c.args.headers.now c.in-Some.at c.args.to.now c.in-Some.ensures.place }
 
-pub returns-else-is_interface : goal.returns-else-is_interface
-returns-else-is_interface c =
+pub returns-then-is_interface_at : goal.returns-then-is_interface_at
+returns-then-is_interface_at c =
+    record { goes = (λ always. interface ((c.is_interface_at.ensures.interface c.args.to.now c.in-Some.ensures.place).0 c.if-is_interface_at.true), λ goes. refl) }
+
+pub returns-else-is_interface_at : goal.returns-else-is_interface_at
+returns-else-is_interface_at c =
     record {
       goes = (
-        λ yes. from_unknown (c.has_unknown_above.ensures.unknown.0 yes),
+        λ is. elim (c.is_below_or_unknown.ensures.goes.0 is) [ inl below ↦ subclass below | inr unknown ↦ from_unknown unknown ],
         λ goes. elim ((class_way c.args.headers.now c.args.from.now c.args.to.now goes).way) [
-          | inl (inl above) ↦ absurd (both_ways c.is_subclass.result c.if-is_subclass.false (c.is_subclass.ensures.subclass.1 above))
-          | inl (inr unknown) ↦ absurd (both_ways c.is_unknown.result c.if-is_unknown.false (c.is_unknown.ensures.unknown.1 unknown))
-          | inr (inl is) ↦ absurd (both_ways c.is_interface.result c.if-is_interface.false (c.is_interface.ensures.interface.1 is))
-          | inr (inr above) ↦ c.has_unknown_above.ensures.unknown.1 above
+          | inl (inl below) ↦ c.is_below_or_unknown.ensures.goes.1 (inl below)
+          | inl (inr unknown) ↦ absurd (unknown (known_at c.args.headers.now c.in-Some.at c.args.to.now c.in-Some.ensures.place))
+          | inr (inl is) ↦ absurd (both_ways c.is_interface_at.result c.if-is_interface_at.false ((c.is_interface_at.ensures.interface c.args.to.now c.in-Some.ensures.place).1 is))
+          | inr (inr above) ↦ c.is_below_or_unknown.ensures.goes.1 (inr above)
         ],
       );
     }
+
+pub returns-in-None : goal.returns-in-None
+returns-in-None c = record { goes = (λ always. to_unknown c.in-None.ensures.place, λ goes. refl) }
