@@ -1,6 +1,6 @@
 -- How words nest, one at a time.
 use Rattle.std.proofs.Common.{◌≡◌, ◌≢◌, ◌↔◌, ◌∙◌, ℕ, zero, suc, ◌≤◌, ◌<◌, List, [], ◌∷◌, length, refl, ap, arith}
-use Rattle.dj_tokens.specs.declared.tokens.Token.{Token}
+use Rattle.dj_depth.specs.declared.effects.Effect.{Effect}
 use Rattle.dj_tokens.specs.Words.{Words, first_word, other_words}
 use Rattle.dj_tokens.specs.Tokens.{token_of}
 use Rattle.dj_depth.specs.Depth.{Nesting, GoesDeep, after, depth, effect_of, most_depth}
@@ -36,8 +36,8 @@ fewer [] rest some is = absurd (some refl)
 fewer (word ∷ others) rest some is = rw is (omega arith)
 
 -- what is read is what comes of the first word
-pub next_is : (nesting new : Nesting) (list : Words) (word : List ℕ) (read : Token) → new ≡ after (effect_of read) nesting → read ≡ token_of word → word ≡ first_word list → new ≡ next nesting list
-next_is nesting new list word read is token first = is ∙ ap (λ t. after (effect_of t) nesting) (token ∙ ap token_of first)
+pub next_is : (nesting new : Nesting) (list : Words) (word : List ℕ) (does : Effect) → new ≡ after does nesting → does ≡ effect_of (token_of word) → word ≡ first_word list → new ≡ next nesting list
+next_is nesting new list word does is effect first = is ∙ ap (λ e. after e nesting) (effect ∙ ap (λ w. effect_of (token_of w)) first)
 
 -- what is left nests too deep exactly where the words do, with the first of them
 pub goes_on : (nesting new : Nesting) (list rest : Words) → list ≢ [] → depth nesting ≤ most_depth → new ≡ next nesting list → rest ≡ other_words list → GoesDeep new rest ↔ GoesDeep nesting list

@@ -1,11 +1,11 @@
 //! How deep a text nests, found in one pass over its words.
 
 ghost use Rattle.std.specs.Prelude.{◌≡◌, ◌≤◌, ◌<◌, ◌↔◌, IfOk, IsTrue, OnOk};
-ghost use Rattle.dj_depth.specs.Depth.{IsDeep, after, after_bracket, after_dot, after_word, begun, bracketed, closed, counted, depth, effect_of, is_in_body, joined, labelled, most_depth, no_words, opened, opened_within, passed, restarted, separated, unwrapped, wrapped};
+ghost use Rattle.dj_depth.specs.Depth.{IsDeep, after, after_bracket, after_dot, after_word, begun, bracketed, closed, counted, depth, is_in_body, joined, labelled, most_depth, no_words, opened, opened_within, passed, restarted, separated, unwrapped, wrapped};
 
-use crate::effects::{Behind, Effect, effect_of};
+use crate::effects::{Behind, Effect, effect_of_word};
 use crate::level::Level;
-use dj_tokens::{Reader, Token, token_of};
+use dj_tokens::Reader;
 use std::alloc::{AllocError, Global};
 use std::marker::Model;
 
@@ -18,8 +18,8 @@ pub fn is_deep(alloc: Global, text: &[u8]) -> Result<bool, AllocError>
 {
     let mut reader = Reader::new(text);
     let mut nesting = Nesting::new(alloc);
-    while !reader.is_at_end() {
-        nesting.read(token_of(reader.take()))?;
+    while let Some(word) = reader.take_next() {
+        nesting.read(effect_of_word(word))?;
         if nesting.is_deep() {
             return Ok(true);
         }
@@ -81,12 +81,11 @@ impl Nesting {
         around.saturating_add(self.level.ended.max(made)) > MOST_DEPTH
     }
 
-    /// A word more.
-    fn read(&mut self, token: Token) -> Result<(), AllocError>
+    /// A word more, given what it does.
+    fn read(&mut self, effect: Effect) -> Result<(), AllocError>
         requires shallow { depth self.old ≤ most_depth }
-        ensures read { OnOk result (self.new ≡ after (effect_of token) self.old) }
+        ensures read { OnOk result (self.new ≡ after effect self.old) }
     {
-        let effect = effect_of(token);
         match self.last {
             Behind::Other => self.read_behind_word(effect)?,
             Behind::Dot => self.read_behind_dot(effect)?,

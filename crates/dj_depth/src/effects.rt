@@ -2,8 +2,9 @@
 
 ghost use Rattle.std.specs.Prelude.{◌≡◌};
 ghost use Rattle.dj_depth.specs.Depth.{effect_of};
+ghost use Rattle.dj_tokens.specs.Tokens.{token_of};
 
-use dj_tokens::Token;
+use dj_tokens::{Token, token_of};
 
 /// What a word does to the depth.
 #[derive(Clone, Copy)]
@@ -44,8 +45,23 @@ pub enum Behind {
     Bracket,
 }
 
-/// What a word does.
-pub fn effect_of(token: Token) -> Effect
+/// What a word does. Those that come most are told by their first character.
+pub fn effect_of_word(word: &[u8]) -> Effect
+    ensures effect { result ≡ effect_of (token_of word.now) }
+{
+    match word {
+        [b'(', ..] => Effect::Wraps,
+        [b')', ..] => Effect::Unwraps,
+        [b'.', ..] => Effect::Joins,
+        [b',', ..] => Effect::Parts,
+        [b'+', ..] => Effect::Counts,
+        [b'0'..=b'9', ..] => Effect::Passes,
+        _ => effect_of(token_of(word)),
+    }
+}
+
+/// What a word does, given what it is.
+fn effect_of(token: Token) -> Effect
     ensures effect { result ≡ effect_of token }
 {
     match token {

@@ -28,8 +28,7 @@ pub fn read_statements(
     ensures read { IfOk result (λ list. (map view_stm list, reader.new) ≡ read_statements no_blocks reader.old) }
 {
     let mut body = Body::new(alloc)?;
-    while !reader.is_at_end() {
-        let word = reader.take();
+    while let Some(word) = reader.take_next() {
         if body.is_ended_by(word) {
             let list = body.into_statements(alloc)?;
             return Ok(list);
