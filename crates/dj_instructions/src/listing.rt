@@ -26,7 +26,7 @@ fn listed(
     ensures reads { IsRead pool.now code.now result }
 {
     let end = code.len();
-    let mut found = Items::from_vec(Vec::with_capacity(alloc, code.len() / 2)?);
+    let mut found = Items::new(alloc);
     let mut rest = code;
     while !rest.is_empty() {
         let pc = (end - rest.len()) as u32;
