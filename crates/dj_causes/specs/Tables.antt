@@ -1,5 +1,5 @@
 -- What is made once of a class to tell the causes of it and of its members.
-use Rattle.std.specs.Prelude.{◌≡◌, ◌≢◌, ◌⊎◌, ℕ, List, length, slice_get, Option, Some, None, MatchOption}
+use Rattle.std.specs.Prelude.{◌≡◌, ◌≢◌, ◌⊎◌, ℕ, List, length, slice_get, Option, Some, None, IfSome, MatchOption}
 use Rattle.std.specs.declared.cmp.Ordering.TheVariants.{Less}
 use Rattle.std.specs.Ordering.{nat_cmp}
 use Rattle.std.specs.Cmp.Lexicographic.{slice_cmp}
@@ -9,6 +9,7 @@ use Rattle.dj_world.specs.Worlds.{WorldOf}
 use Rattle.dj_sayable.specs.Above.{IsAtOrAbove}
 use Rattle.dj_sayable.specs.Scopes.{IsScope}
 use Rattle.dj_signatures.specs.Signatures.{method_names, TellsRivals}
+use Rattle.dj_causes.specs.declared.bare.BareTable.{BareTable}
 use Rattle.dj_causes.specs.declared.cause.Cause.{Cause}
 use Rattle.dj_causes.specs.declared.cause.FieldCause.{FieldCause}
 use Rattle.dj_causes.specs.declared.causes.Causes.{Causes}
@@ -33,13 +34,17 @@ IsLesser (Some first) (Some second) found =
 abbrev pub IsLeastIfAny : (Name → Type 0) → Option Name → Type 0
 IsLeastIfAny P found = MatchOption found ((name : Name) → ¬ P name) (IsLeastName P)
 
--- the tables are those of a class: its scope, its members' names, which of its methods have rivals, and the least unsaid name that all of its methods share
+-- what the causes of methods without code rest on: which methods of the class have rivals, and the least unsaid name that all of them share
+pub record IsBareTable (world : WorldOf) (class : ClassOf) (table : BareTable) : Type 0 where
+  pub rivals : TellsRivals class.methods table.rivals
+  pub common : IsLeastIfAny (IsUnsaidAbove world class.this_class (IsCommon class)) table.common
+
+-- the tables are those of a class: its scope, its members' names, and what the causes of its methods without code rest on, where that was made
 pub record AreTables (world : WorldOf) (class : ClassOf) (tables : Tables) : Type 0 where
   pub scope : IsScope world.headers world.members class.this_class tables.scope
   pub fields : tables.fields ≡ field_names class.fields
   pub methods : tables.methods ≡ method_names class.methods
-  pub rivals : TellsRivals class.methods tables.rivals
-  pub common : IsLeastIfAny (IsUnsaidAbove world class.this_class (IsCommon class)) tables.common
+  pub bare : IfSome tables.bare (IsBareTable world class)
 
 -- the first cause of each field of a class, in file order
 pub record TellsFields (world : WorldOf) (class : ClassOf) (found : List (Option FieldCause)) : Type 0 where

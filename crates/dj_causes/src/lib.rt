@@ -3,6 +3,7 @@
 //! The layers above use `Causes`, made once a class: `class_cause`, `field_cause` and `bare_cause` each answer the first cause that holds.
 #![tactic(auto)]
 
+mod bare;
 mod cause;
 mod causes;
 mod class_causes;

@@ -1,30 +1,32 @@
 //! What is made once of a class to tell the causes of it and of its members, and the causes.
 
-ghost use Rattle.std.specs.Prelude.{◌≡◌, ◌↔◌, ◌<◌, List, [], ◌∷◌, ◌++◌, Some, None, map, length, MatchOption, Contains, IsTrue, IsSomeAnd, OnOk, IfOk, slice_get};
+ghost use Rattle.std.specs.Prelude.{◌≡◌, ◌↔◌, ◌<◌, List, [], ◌∷◌, ◌++◌, Any, Some, None, map, length, MatchOption, Contains, IsTrue, IsSomeAnd, IfOk, IfSome, slice_get};
 ghost use Rattle.dj_names.specs.Headers.{Name};
 ghost use Rattle.dj_names.specs.Types.{view_descriptor};
 ghost use Rattle.dj_world.specs.Named.{NamesClass};
 ghost use Rattle.dj_class.specs.Described.{ClassOf};
-ghost use Rattle.dj_class.specs.Views.{view_class, view_field, view_method};
+ghost use Rattle.dj_class.specs.Views.{view_class, view_field};
+ghost use Rattle.dj_sayable.specs.Scopes.{IsScope};
 ghost use Rattle.dj_world.specs.Worlds.{WorldOf};
 ghost use Rattle.dj_causes.specs.ClassCauses.{IsFirstUnsaid, IsClassCause};
 ghost use Rattle.dj_causes.specs.FieldCauses.{IsRepeated, IsUnsaidInField, IsFieldCause, field_names};
-ghost use Rattle.dj_causes.specs.BareCauses.{IsCommon, IsMethodName, IsUnsaid, IsBareCause};
+ghost use Rattle.dj_causes.specs.BareCauses.{IsUnsaid, IsBareCause};
 ghost use Rattle.dj_signatures.specs.Signatures.{method_names};
-ghost use Rattle.dj_causes.specs.Tables.{AreTables, IsLeastIfAny, IsUnsaidAbove};
+ghost use Rattle.dj_causes.specs.Tables.{AreTables, IsBareTable};
 
+use crate::bare::{BareTable, has_bare};
 use crate::cause::{Cause, ClassCause, FieldCause};
 use crate::class_causes::{
     describes_package, first_unsaid_parent, is_annotation, is_enum, is_root, unset_name,
 };
 use crate::constants::has_wrong_constant;
 use crate::types::class_of;
-use crate::unsaid::{common_names, head_names, least_unsaid, lesser, units_of, unsaid_name};
-use dj_class::{ClassFile, Method};
+use crate::unsaid::{units_of, unsaid_name};
+use dj_class::ClassFile;
 use dj_members::NameTable;
-use dj_names::{Field, Items, Units, is_constructor, is_identifier, is_initialiser};
+use dj_names::{Field, Units, is_identifier};
 use dj_sayable::{Scope, is_among};
-use dj_signatures::{breaks_signature, rivals_of, table_of};
+use dj_signatures::table_of;
 use dj_world::World;
 use std::alloc::{AllocError, Global};
 
@@ -34,10 +36,8 @@ pub struct Tables {
     scope: Scope,
     fields: NameTable,
     methods: NameTable,
-    /// Whether each method has a rival among the others.
-    rivals: Items<bool>,
-    /// The least name that the class can't say among those that the texts of all its methods share.
-    common: Option<Units>,
+    /// What the causes of methods without code rest on, where the class has such a method.
+    bare: Option<BareTable>,
 }
 
 /// The names of fields, in order.
@@ -51,32 +51,23 @@ fn names_of_fields(alloc: Global, fields: &[Field]) -> Result<NameTable, AllocEr
     Ok(names)
 }
 
-/// An equal name, if there is one.
-fn copy_units(alloc: Global, name: &Option<Units>) -> Result<Option<Units>, AllocError>
-    ensures equal { IfOk result (λ copy. copy ≡ name.now) }
+/// What the causes of the methods of a class without code rest on, where it has such a method.
+fn bare_table(
+    alloc: Global,
+    world: &World,
+    class: &ClassFile,
+    scope: &Scope,
+) -> Result<Option<BareTable>, AllocError>
+    requires scope { IsScope world.now.headers world.now.members class.now.this_class scope.now }
+    ensures made { IfOk result (λ found. IfSome found (IsBareTable world.now (view_class class.now))) }
+    ensures none { IfOk result (λ found. found ≡ None → ¬ Any (λ method. method.code ≡ None) class.now.methods) }
 {
-    match name {
-        Some(units) => Ok(Some(units.copy(alloc)?)),
-        None => Ok(None),
-    }
-}
-
-/// A method's name, where no text can say it.
-fn unsaid_method_name(alloc: Global, name: &Units) -> Result<Option<Units>, AllocError>
-    ensures unsaid { IfOk result (IsLeastIfAny (λ other. ¬ IsMethodName name.now × (other ≡ name.now))) }
-{
-    if is_method_name(name) {
-        Ok(None)
+    if has_bare(class.methods.as_slice()) {
+        let table = BareTable::new(alloc, world, class, scope)?;
+        Ok(Some(table))
     } else {
-        Ok(Some(name.copy(alloc)?))
+        Ok(None)
     }
-}
-
-/// Whether a name is an identifier, or that of a constructor or of a static initialiser.
-fn is_method_name(name: &Units) -> bool
-    ensures name { IsTrue result ↔ IsMethodName name.now }
-{
-    is_constructor(name) || is_initialiser(name) || is_identifier(name)
 }
 
 /// The field at a place.
@@ -86,15 +77,6 @@ fn field_at(class: &ClassFile, at: usize) -> &Field
 {
     let fields = class.fields.as_slice();
     &fields[at]
-}
-
-/// The method at a place.
-fn method_at(class: &ClassFile, at: usize) -> &Method
-    requires within { at < length class.now.methods }
-    ensures there { slice_get (view_class class.now).methods at ≡ Some (view_method result.now) }
-{
-    let methods = class.methods.as_slice();
-    &methods[at]
 }
 
 /// Whether the name at a place stands before it too.
@@ -114,17 +96,14 @@ impl Tables {
         ensures made { IfOk result (AreTables world.now (view_class class.now)) }
     {
         let scope = Scope::new(alloc, world.headers(), world.members(), &class.this_class)?;
-        let shared = common_names(alloc, &class.this_class)?;
-        let common = least_unsaid(alloc, world, &scope, shared.as_slice())?;
+        let bare = bare_table(alloc, world, class, &scope)?;
         let fields = names_of_fields(alloc, class.fields.as_slice())?;
         let methods = table_of(alloc, class.methods.as_slice())?;
-        let rivals = rivals_of(alloc, class.methods.as_slice())?;
         Ok(Tables {
             scope,
             fields,
             methods,
-            rivals,
-            common,
+            bare,
         })
     }
 
@@ -235,24 +214,6 @@ impl Tables {
         Ok(None)
     }
 
-    /// The least name that the text of a method can't say among its own and those of the classes that it may rest on.
-    fn unsaid_in_method(
-        &self,
-        alloc: Global,
-        world: &World,
-        class: &ClassFile,
-        method: &Method,
-    ) -> Result<Option<Units>, AllocError>
-        requires made { AreTables world.now (view_class class.now) self.now }
-        ensures least { IfOk result (IsLeastIfAny (IsUnsaid world.now (view_class class.now) (view_method method.now))) }
-    {
-        let head = head_names(alloc, method)?;
-        let own = least_unsaid(alloc, world, &self.scope, head.as_slice())?;
-        let common = copy_units(alloc, &self.common)?;
-        let name = unsaid_method_name(alloc, &method.name)?;
-        Ok(lesser(name, lesser(common, own)))
-    }
-
     /// The first cause for which the method at a place, which has no code, isn't printed.
     pub fn bare_cause(
         &self,
@@ -267,13 +228,16 @@ impl Tables {
         // No name of such a method is unsaid, where it has no cause.
         ensures said { IfOk result (λ found. found ≡ None → (name : Name) → ¬ IsSomeAnd (slice_get (view_class class.now).methods at) (λ method. IsUnsaid world.now (view_class class.now) method name)) }
     {
-        let method = method_at(class, at);
-        if let Some(name) = self.unsaid_in_method(alloc, world, class, method)? {
-            return Ok(Some(Cause::Name(name)));
+        match &self.bare {
+            Some(table) => {
+                let cause = table.cause(alloc, world, class, &self.scope, at)?;
+                Ok(cause)
+            }
+            None => {
+                let table = BareTable::new(alloc, world, class, &self.scope)?;
+                let cause = table.cause(alloc, world, class, &self.scope, at)?;
+                Ok(cause)
+            }
         }
-        if breaks_signature(class, self.rivals.as_slice(), at, method) {
-            return Ok(Some(Cause::Signature));
-        }
-        Ok(None)
     }
 }

@@ -6,9 +6,8 @@ returns c =
     record {
       made = record {
         scope = scope;
-        fields = rw c.as_slice-2.ensures at c.in_ok-fields.ensures.names;
-        methods = rw c.as_slice-3.ensures at c.in_ok-methods.ensures.names;
-        rivals = rw c.as_slice-4.ensures at c.in_ok-rivals.ensures.rivals;
-        common = rw (c.as_slice.ensures, c.in_ok-shared.ensures.names) at (c.in_ok-common.ensures.least c.args.class.now.this_class scope);
+        fields = rw c.as_slice.ensures at c.in_ok-fields.ensures.names;
+        methods = rw c.as_slice-2.ensures at c.in_ok-methods.ensures.names;
+        bare = c.in_ok-bare.ensures.made;
       };
     }

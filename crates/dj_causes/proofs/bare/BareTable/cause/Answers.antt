@@ -2,7 +2,7 @@ use Rattle.dj_class.specs.Views.{view_class, view_method}
 use Rattle.dj_signatures.specs.Signatures.{BreaksSignature}
 use Rattle.dj_causes.proofs.ClassCauseLemmas.{fails}
 use Rattle.dj_causes.proofs.BareCauseLemmas.{least_name, least_signature, none_of_method, none_unsaid}
-use Rattle.dj_causes.proofs.tables.Tables.bare_cause.Goals as goal
+use Rattle.dj_causes.proofs.bare.BareTable.cause.Goals as goal
 
 pub returns-in-Some-clause-first : goal.returns-in-Some-clause-first
 returns-in-Some-clause-first c = least_name c.args.world.now (view_class c.args.class.now) c.args.at (view_method c.method_at-method.result.now) c.method_at-method.ensures.there c.in-Some.name (rw c.in-Some.is at c.in_ok-name.ensures.least)
