@@ -28,7 +28,8 @@ pub fn read_statements(
     ensures read { IfOk result (λ list. (map view_stm list, reader.new) ≡ read_statements no_blocks reader.old) }
 {
     let mut body = Body::new(alloc)?;
-    while let Some(word) = reader.take_next() {
+    while !reader.is_at_end() {
+        let word = reader.take();
         if body.is_ended_by(word) {
             let list = body.into_statements(alloc)?;
             return Ok(list);
