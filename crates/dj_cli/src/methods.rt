@@ -232,7 +232,16 @@ pub fn judge_methods<'a>(
     let methods = class.methods.as_slice();
     for at in 0..methods.len() {
         let method = &methods[at];
-        match judge_method(alloc, world, &verifier, class, causes, &mut declared, at, method)? {
+        match judge_method(
+            alloc,
+            world,
+            &verifier,
+            class,
+            causes,
+            &mut declared,
+            at,
+            method,
+        )? {
             Told::Body(body) => bodies.push(Some(body))?,
             Told::Bare => bodies.push(None)?,
             Told::Line(ending) => {

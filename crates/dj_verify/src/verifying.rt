@@ -127,12 +127,7 @@ impl Verifier {
 
     /// The code with its table of frames. An error tells the first violation, by the order in which
     /// instructions stand, or that there is no memory.
-    pub fn verify(
-        &self,
-        alloc: Global,
-        headers: &Headers,
-        code: Code,
-    ) -> Result<Typed, VerifyFault>
+    pub fn verify(&self, alloc: Global, headers: &Headers, code: Code) -> Result<Typed, VerifyFault>
         requires rising { IsRising (view_instructions code.instructions) }
         ensures same { IfOk result (λ typed. typed.code ≡ code) }
         ensures typed { IfOk result (λ typed. IsTyped (lax.Laxly headers.now) headers.now (view_typed typed)) }
