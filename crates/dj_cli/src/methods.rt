@@ -21,7 +21,7 @@ use dj_names::Items;
 use dj_report::{bad_tail, not_yet_tail, unverified_tail};
 use dj_straight::{Declared, Judged, judge, returning_body};
 use dj_syntax::{Body, Exp};
-use dj_verify::{Rule, Verifier, VerifyFault};
+use dj_verify::{Rule, VerifyFault, verify};
 use dj_world::World;
 use std::alloc::{AllocError, Global};
 
@@ -82,7 +82,6 @@ fn find_verified<'a>(
 fn find_spelled<'a>(
     alloc: Global,
     world: &World,
-    verifier: &Verifier,
     class: &ClassFile,
     declared: &mut Declared<'a>,
     method: &'a Method,
@@ -92,7 +91,7 @@ fn find_spelled<'a>(
     ensures found { IfOk result (λ found. (before : List MethodOf) → Holds declared.old before → IsFound world.now (view_class class.now) before (view_method method.now) found) }
     ensures declared { OnOk result ((before : List MethodOf) → Holds declared.old before → Holds declared.new (before ++ view_method method.now ∷ [])) }
 {
-    match verifier.verify(alloc, world.headers(), code) {
+    match verify(alloc, world.headers(), code) {
         Ok(typed) => find_verified(alloc, class, declared, method, &typed.code),
         Err(VerifyFault::Unverified { pc, rule }) => {
             declared.admit(method)?;
@@ -106,7 +105,6 @@ fn find_spelled<'a>(
 fn find_coded<'a>(
     alloc: Global,
     world: &World,
-    verifier: &Verifier,
     class: &ClassFile,
     declared: &mut Declared<'a>,
     method: &'a Method,
@@ -116,7 +114,7 @@ fn find_coded<'a>(
     ensures declared { OnOk result ((before : List MethodOf) → Holds declared.old before → Holds declared.new (before ++ view_method method.now ∷ [])) }
 {
     match read_code_of(alloc, class, method) {
-        Ok(code) => find_spelled(alloc, world, verifier, class, declared, method, code),
+        Ok(code) => find_spelled(alloc, world, class, declared, method, code),
         Err(CodeFault::BadCode { pc, kind }) => {
             declared.admit(method)?;
             Ok(Finding::Bad { pc, kind })
@@ -148,7 +146,6 @@ fn find_bare(
 fn find<'a>(
     alloc: Global,
     world: &World,
-    verifier: &Verifier,
     class: &ClassFile,
     causes: &Causes,
     declared: &mut Declared<'a>,
@@ -162,7 +159,7 @@ fn find<'a>(
 {
     match &method.code {
         Some(_) => {
-            let found = find_coded(alloc, world, verifier, class, declared, method)?;
+            let found = find_coded(alloc, world, class, declared, method)?;
             Ok(found)
         }
         None => {
@@ -198,7 +195,6 @@ fn told_of(
 fn judge_method<'a>(
     alloc: Global,
     world: &World,
-    verifier: &Verifier,
     class: &ClassFile,
     causes: &Causes,
     declared: &mut Declared<'a>,
@@ -210,7 +206,7 @@ fn judge_method<'a>(
     ensures told { IfOk result (λ told. (before : List MethodOf) → length before ≡ at → Holds declared.old before → IsToldOf world.now (view_class class.now) before (view_method method.now) told) }
     ensures declared { OnOk result ((before : List MethodOf) → Holds declared.old before → Holds declared.new (before ++ view_method method.now ∷ [])) }
 {
-    let found = find(alloc, world, verifier, class, causes, declared, at, method)?;
+    let found = find(alloc, world, class, causes, declared, at, method)?;
     let told = told_of(alloc, class, method, found)?;
     Ok(told)
 }
@@ -225,23 +221,13 @@ pub fn judge_methods<'a>(
     requires made { AreCauses world.now (view_class class.now) causes.now }
     ensures judged { IfOk result (λ found. AreJudged world.now (view_class class.now) (view_class class.now).methods (map (option_map view_body) found.bodies) (lines_bytes class.now.this_class found.lines.items) (length found.lines.items)) }
 {
-    let verifier = Verifier::new(alloc)?;
     let mut bodies = Items::new(alloc);
     let mut lines = Vec::new(alloc);
     let mut declared = Declared::new(alloc);
     let methods = class.methods.as_slice();
     for at in 0..methods.len() {
         let method = &methods[at];
-        match judge_method(
-            alloc,
-            world,
-            &verifier,
-            class,
-            causes,
-            &mut declared,
-            at,
-            method,
-        )? {
+        match judge_method(alloc, world, class, causes, &mut declared, at, method)? {
             Told::Body(body) => bodies.push(Some(body))?,
             Told::Bare => bodies.push(None)?,
             Told::Line(ending) => {

@@ -12,7 +12,6 @@ ghost use Rattle.dj_verify.specs.Verified.{IsTyped, IsVerifyFault};
 use crate::fault::VerifyFault;
 use crate::verifying::frames_of;
 use dj_code::{Code, Typed};
-use dj_effects::Known;
 use dj_frames::Frame;
 use dj_headers::Headers;
 use dj_names::Items;
@@ -25,9 +24,8 @@ fn strict_frames(alloc: Global, headers: &Headers, code: &Code) -> Result<Items<
     ensures table { IfOk result (λ frames. IsFrameTable (strict.Strictly headers.now) headers.now (view_code code.now) (map view_frame frames)) }
     ensures unverified { IfErr result (IsVerifyFault (strict.Strictly headers.now) headers.now (view_code code.now)) }
 {
-    let known = Known::new(alloc)?;
     let strictly = Strictly { headers };
-    let found = frames_of(alloc, &strictly, &known, code);
+    let found = frames_of(alloc, &strictly, code);
     let Strictly { headers: _ } = strictly;
     found
 }
