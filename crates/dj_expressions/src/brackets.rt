@@ -3,7 +3,7 @@
 ghost use Rattle.std.specs.Prelude.{◌≡◌, [], ◌∷◌, ◌++◌, map, IfOk, Some, option_map};
 ghost use Rattle.dj_names.specs.Types.{Array, view_type};
 ghost use Rattle.dj_syntax.specs.Trees.{Element, exps_of, view_exp};
-ghost use Rattle.dj_grammar.specs.Brackets.{above_in, called_by, called_plainly, at_opener, callee_of, close_parenthesis, close_bracket, close_ended, close_opened, close_opener, index_ended, index_opener, next, next_ended, next_opener, no_arguments, open_parenthesis, open_arguments, open_bracket, open_named, pair_opener};
+ghost use Rattle.dj_grammar.specs.Brackets.{above_in, called_by, called_plainly, at_opener, callee_of, close_parenthesis, close_bracket, close_ended, close_opener, index_ended, index_opener, next, next_ended, next_opener, no_arguments, open_parenthesis, open_arguments, open_bracket, open_named, pair_opener};
 ghost use Rattle.dj_grammar.specs.Frames.{Arguments, Bracket, Creation, Joins, Negated, Opens, Parenthesis, Size, called, collapsed, creating, opened};
 ghost use Rattle.dj_grammar.specs.Readings.{Called, Lost, Named, Sized, Stands, Typed, Wanted, ended};
 ghost use Rattle.dj_tokens.specs.Dotted.{type_of_name, value_of, whole};

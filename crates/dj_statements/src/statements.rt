@@ -13,7 +13,6 @@ ghost use Rattle.dj_grammar.specs.Statements.{colon_of, ends_body, no_blocks, re
 
 use crate::frames::Clause;
 use crate::lists::{Lists, Place, ready};
-use dj_expressions::Reading;
 use dj_names::Items;
 use dj_syntax::{Stm, fitted};
 use dj_tokens::{KnownNames, Reader, Token, is_word, token_of};
@@ -28,8 +27,7 @@ pub fn read_statements(
     ensures read { IfOk result (λ list. (map view_stm list, reader.new) ≡ read_statements no_blocks reader.old) }
 {
     let mut body = Body::new(alloc)?;
-    while !reader.is_at_end() {
-        let word = reader.take();
+    while let Some(word) = reader.take_next() {
         if body.is_ended_by(word) {
             let list = body.into_statements(alloc)?;
             return Ok(list);

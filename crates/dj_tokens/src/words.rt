@@ -1,6 +1,6 @@
 //! A text as words, read one after another.
 
-ghost use Rattle.std.specs.Prelude.{◌≡◌, ◌≢◌, ◌≤◌, ◌+◌, ◌↔◌, [], take, drop, length, false, true, IsTrue, IfSome, IfNone};
+ghost use Rattle.std.specs.Prelude.{◌≡◌, ◌≢◌, ◌≤◌, ◌+◌, ◌↔◌, [], take, drop, length, false, IsTrue, IfSome, IfNone};
 ghost use Rattle.std.specs.List.{take_while};
 ghost use Rattle.dj_tokens.specs.Words.{words, first_word, other_words, comes, is_word, is_digit, is_letter, is_operator, is_blank, is_quote, begins, literal_length};
 
@@ -62,6 +62,7 @@ impl<'a> Reader<'a> {
         ensures rest { IfSome result (λ _. self.new ≡ other_words self.old) }
         ensures left { IfSome result (λ _. self.old ≢ []) }
         ensures none { IfNone result (self.old ≡ []) }
+        ensures kept { IfNone result (self.new ≡ self.old) }
     {
         let text = past_blanks(self.text);
         if text.is_empty() {
