@@ -1,17 +1,16 @@
 //! Attributes that a class file has to have right: ConstantValue, Exceptions and Code (JVMS 4.7).
 
-ghost use Rattle.std.specs.Prelude.{◌≡◌, ◌≢◌, ◌↔◌, MatchBool, [], ◌∷◌, ◌++◌, Some, IsTrue, IfOk, IfSome, IfNone, length};
+ghost use Rattle.std.specs.Prelude.{◌≡◌, ◌≢◌, ◌↔◌, [], ◌∷◌, ◌++◌, Some, IsTrue, IfOk, IfSome, IfNone, length};
 ghost use Rattle.dj_layout.specs.Layout.{Reads};
 ghost use Rattle.dj_names.specs.Types.{view_type};
 ghost use Rattle.dj_pool.specs.PoolFormat.{text_at};
 ghost use Rattle.dj_class.specs.FileFormat.{named, constant_tag, index_of, IsConstantIndex, IsConstantValue};
-ghost use Rattle.dj_pool.specs.Attributes.{contents};
 ghost use Rattle.dj_class.specs.Described.{constant_of};
 ghost use Rattle.dj_class.specs.FileParts.{constant_at};
 
 use dj_layout::{Stop, fault_at};
 use dj_names::{Constant, Descriptor, JType, is_word};
-use dj_pool::{Attribute, BrokenKind, Entry, Pool, attribute_at, has_tag, is_text};
+use dj_pool::{BrokenKind, Entry, Pool, attribute_at, has_tag, is_text};
 use std::alloc::{AllocError, Global};
 
 /// An attribute whose name is a text.

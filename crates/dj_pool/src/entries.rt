@@ -15,7 +15,7 @@ use crate::fault::BrokenKind;
 use crate::pool::Pool;
 use crate::texts::{is_found, leads_right};
 use dj_layout::{Stop, fault_at, run_at, u8_at, u16_at, u32_at, u64_at};
-use dj_names::{Items, NameFault, Units, read_units};
+use dj_names::{NameFault, Units, read_units};
 use std::alloc::Global;
 
 /// Units in `n` bytes.

@@ -87,7 +87,9 @@ fn entries_at<'a>(
     ensures reads { Reads (entries (option_copied given.entry) count) (λ x. (x.0, x.1.now)) end bytes.now result }
     ensures filled { IfOk result (λ x. length x.0 ≡ count + 1) }
 {
-    let mut found = Items::from_vec(Vec::with_capacity(alloc, usize::from(count) + 1)?);
+    // An entry takes three bytes at least, so a short file asks for little room.
+    let most = usize::from(count).min(bytes.len() / 3);
+    let mut found = Items::from_vec(Vec::with_capacity(alloc, most + 1)?);
     found.push(Entry::Skip)?;
     let mut rest = bytes;
     let mut room = count;

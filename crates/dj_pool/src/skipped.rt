@@ -1,6 +1,6 @@
 //! The pool of a class file once more, when it is known: what its indices lead to is looked up, and nothing is kept (JVMS 4.4).
 
-ghost use Rattle.std.specs.Prelude.{◌≡◌, ◌≤◌, ◌+◌, length, Some, IsTrue, IfOk};
+ghost use Rattle.std.specs.Prelude.{◌≡◌, ◌≤◌, ◌+◌, Some, IsTrue, IfOk};
 ghost use Rattle.dj_layout.specs.Layout.{ReadsAs, Skips};
 ghost use Rattle.dj_pool.specs.PoolFormat.{behind, content_of, tag_of, places, is_tag, utf8, text, entry_within, entries, pool};
 
