@@ -21,7 +21,7 @@ use dj_names::Items;
 use dj_report::{bad_tail, not_yet_tail, unverified_tail};
 use dj_straight::{Declared, Judged, judge, returning_body};
 use dj_syntax::{Body, Exp};
-use dj_verify::{Rule, VerifyFault, verify};
+use dj_verify::{Rule, Verifier, VerifyFault};
 use dj_world::World;
 use std::alloc::{AllocError, Global};
 
@@ -82,6 +82,7 @@ fn find_verified<'a>(
 fn find_spelled<'a>(
     alloc: Global,
     world: &World,
+    verifier: &Verifier,
     class: &ClassFile,
     declared: &mut Declared<'a>,
     method: &'a Method,
@@ -91,7 +92,7 @@ fn find_spelled<'a>(
     ensures found { IfOk result (λ found. (before : List MethodOf) → Holds declared.old before → IsFound world.now (view_class class.now) before (view_method method.now) found) }
     ensures declared { OnOk result ((before : List MethodOf) → Holds declared.old before → Holds declared.new (before ++ view_method method.now ∷ [])) }
 {
-    match verify(alloc, world.headers(), code) {
+    match verifier.verify(alloc, world.headers(), code) {
         Ok(typed) => find_verified(alloc, class, declared, method, &typed.code),
         Err(VerifyFault::Unverified { pc, rule }) => {
             declared.admit(method)?;
@@ -105,6 +106,7 @@ fn find_spelled<'a>(
 fn find_coded<'a>(
     alloc: Global,
     world: &World,
+    verifier: &Verifier,
     class: &ClassFile,
     declared: &mut Declared<'a>,
     method: &'a Method,
@@ -114,7 +116,7 @@ fn find_coded<'a>(
     ensures declared { OnOk result ((before : List MethodOf) → Holds declared.old before → Holds declared.new (before ++ view_method method.now ∷ [])) }
 {
     match read_code_of(alloc, class, method) {
-        Ok(code) => find_spelled(alloc, world, class, declared, method, code),
+        Ok(code) => find_spelled(alloc, world, verifier, class, declared, method, code),
         Err(CodeFault::BadCode { pc, kind }) => {
             declared.admit(method)?;
             Ok(Finding::Bad { pc, kind })
@@ -146,6 +148,7 @@ fn find_bare(
 fn find<'a>(
     alloc: Global,
     world: &World,
+    verifier: &Verifier,
     class: &ClassFile,
     causes: &Causes,
     declared: &mut Declared<'a>,
@@ -159,7 +162,7 @@ fn find<'a>(
 {
     match &method.code {
         Some(_) => {
-            let found = find_coded(alloc, world, class, declared, method)?;
+            let found = find_coded(alloc, world, verifier, class, declared, method)?;
             Ok(found)
         }
         None => {
@@ -195,6 +198,7 @@ fn told_of(
 fn judge_method<'a>(
     alloc: Global,
     world: &World,
+    verifier: &Verifier,
     class: &ClassFile,
     causes: &Causes,
     declared: &mut Declared<'a>,
@@ -206,15 +210,16 @@ fn judge_method<'a>(
     ensures told { IfOk result (λ told. (before : List MethodOf) → length before ≡ at → Holds declared.old before → IsToldOf world.now (view_class class.now) before (view_method method.now) told) }
     ensures declared { OnOk result ((before : List MethodOf) → Holds declared.old before → Holds declared.new (before ++ view_method method.now ∷ [])) }
 {
-    let found = find(alloc, world, class, causes, declared, at, method)?;
+    let found = find(alloc, world, verifier, class, causes, declared, at, method)?;
     let told = told_of(alloc, class, method, found)?;
     Ok(told)
 }
 
-/// What is found of the methods of a class in the world.
-pub fn judge_methods<'a>(
+/// What is found of the methods of a class in the world, whose code this verifies.
+fn judge_each<'a>(
     alloc: Global,
     world: &World,
+    verifier: &Verifier,
     class: &'a ClassFile,
     causes: &Causes,
 ) -> Result<Judgement<'a>, AllocError>
@@ -227,7 +232,16 @@ pub fn judge_methods<'a>(
     let methods = class.methods.as_slice();
     for at in 0..methods.len() {
         let method = &methods[at];
-        match judge_method(alloc, world, class, causes, &mut declared, at, method)? {
+        match judge_method(
+            alloc,
+            world,
+            verifier,
+            class,
+            causes,
+            &mut declared,
+            at,
+            method,
+        )? {
             Told::Body(body) => bodies.push(Some(body))?,
             Told::Bare => bodies.push(None)?,
             Told::Line(ending) => {
@@ -238,4 +252,18 @@ pub fn judge_methods<'a>(
         }
     }
     Ok(Judgement { bodies, lines })
+}
+
+/// What is found of the methods of a class in the world.
+pub fn judge_methods<'a>(
+    alloc: Global,
+    world: &World,
+    class: &'a ClassFile,
+    causes: &Causes,
+) -> Result<Judgement<'a>, AllocError>
+    requires made { AreCauses world.now (view_class class.now) causes.now }
+    ensures judged { IfOk result (λ found. AreJudged world.now (view_class class.now) (view_class class.now).methods (map (option_map view_body) found.bodies) (lines_bytes class.now.this_class found.lines.items) (length found.lines.items)) }
+{
+    let verifier = Verifier::new(alloc)?;
+    judge_each(alloc, world, &verifier, class, causes)
 }

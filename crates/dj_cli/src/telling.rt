@@ -1,7 +1,6 @@
 //! The pieces of files, told to the text and to the report.
 
-ghost use Rattle.std.specs.Prelude.{◌≡◌, ◌≢◌, ◌≤◌, ℕ, List, [], All, Option, IfOk, IfErr, MatchBool, length, map};
-ghost use Rattle.std.specs.String.{string_bytes};
+ghost use Rattle.std.specs.Prelude.{◌≡◌, ◌≢◌, ◌≤◌, ℕ, List, [], All, Option, IfOk, IfErr, MatchBool, length};
 ghost use Rattle.dj_outer.specs.Count.{Rose};
 ghost use Rattle.dj_outer.specs.Sink.{Puts};
 ghost use Rattle.dj_class.specs.Views.{view_class};

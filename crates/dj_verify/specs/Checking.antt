@@ -31,7 +31,7 @@ ArePlacesFrom from frames places =
 -- the code that is checked has its instructions in order, and all is known that is looked up for it
 pub record IsReady (subject : Subject) : Type 0 where
   pub rising : IsRising (view_instructions subject.code.now.instructions)
-  pub known : IsKnown subject.known
+  pub known : IsKnown subject.known.now
   pub places : ArePlacesFrom 0 (view_frames subject.code.now.frames) subject.places
 
 -- ---- a place

@@ -99,7 +99,7 @@ fn behind<G: Goes>(
     let done = apply(
         alloc,
         goes,
-        &subject.known,
+        subject.known,
         subject.code,
         site.pc,
         site.instruction,

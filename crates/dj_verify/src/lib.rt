@@ -16,4 +16,4 @@ mod verifying;
 pub use fault::VerifyFault;
 pub use rule::Rule;
 pub use strictly::strict;
-pub use verifying::verify;
+pub use verifying::{Verifier, verify};

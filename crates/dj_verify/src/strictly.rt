@@ -12,10 +12,11 @@ ghost use Rattle.dj_verify.specs.Verified.{IsTyped, IsVerifyFault};
 use crate::fault::VerifyFault;
 use crate::verifying::frames_of;
 use dj_code::{Code, Typed};
+use dj_effects::Known;
 use dj_frames::Frame;
 use dj_headers::Headers;
 use dj_names::Items;
-use dj_tags::{Goes, Strictly};
+use dj_tags::Strictly;
 use std::alloc::Global;
 
 /// The table of frames of code by what Java asks of references, or its first violation.
@@ -24,8 +25,9 @@ fn strict_frames(alloc: Global, headers: &Headers, code: &Code) -> Result<Items<
     ensures table { IfOk result (λ frames. IsFrameTable (strict.Strictly headers.now) headers.now (view_code code.now) (map view_frame frames)) }
     ensures unverified { IfErr result (IsVerifyFault (strict.Strictly headers.now) headers.now (view_code code.now)) }
 {
+    let known = Known::new(alloc)?;
     let strictly = Strictly { headers };
-    let found = frames_of(alloc, &strictly, code);
+    let found = frames_of(alloc, &strictly, &known, code);
     let Strictly { headers: _ } = strictly;
     found
 }

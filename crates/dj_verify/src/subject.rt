@@ -4,6 +4,7 @@ ghost use Rattle.std.specs.Prelude.{◌≡◌, option_map, IfOk};
 ghost use Rattle.std.specs.Option.{option_copied};
 ghost use Rattle.dj_instructions.specs.Instructions.{IsRising, view_instructions};
 ghost use Rattle.dj_frames.specs.Frames.{view_frame, view_frames};
+ghost use Rattle.dj_effects.specs.Doing.{IsKnown};
 ghost use Rattle.dj_verify.specs.Rules.{frame_in};
 ghost use Rattle.dj_verify.specs.Checking.{ArePlacesFrom, IsReady};
 
@@ -17,7 +18,7 @@ use std::collections::BTreeMap;
 #[derive(Drop)]
 pub struct Subject<'a> {
     pub code: &'a Code,
-    pub known: Known,
+    pub known: &'a Known,
     pub places: BTreeMap<u32, usize>,
 }
 
@@ -36,13 +37,13 @@ fn first_places(alloc: Global, frames: &[(u32, Frame)]) -> Result<BTreeMap<u32, 
 
 impl<'a> Subject<'a> {
     /// Code to be checked.
-    pub fn new(alloc: Global, code: &'a Code) -> Result<Subject<'a>, AllocError>
+    pub fn new(alloc: Global, known: &'a Known, code: &'a Code) -> Result<Subject<'a>, AllocError>
+        requires known { IsKnown known.now }
         requires rising { IsRising (view_instructions code.now.instructions) }
         ensures code { IfOk result (λ subject. subject.code.now ≡ code.now) }
         ensures ready { IfOk result IsReady }
     {
         let places = first_places(alloc, code.frames.as_slice())?;
-        let known = Known::new(alloc)?;
         Ok(Subject {
             code,
             known,

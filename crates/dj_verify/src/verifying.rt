@@ -5,6 +5,7 @@ ghost use Rattle.dj_instructions.specs.Instructions.{IsRising, view_instructions
 ghost use Rattle.dj_frames.specs.Frames.{view_frame};
 ghost use Rattle.dj_code.specs.MethodCode.{view_code, view_typed};
 ghost use Rattle.dj_tags.specs.Laxly as lax;
+ghost use Rattle.dj_effects.specs.Doing.{IsKnown};
 ghost use Rattle.dj_verify.specs.Rules.{entry};
 ghost use Rattle.dj_verify.specs.Table.{IsFrameTable};
 ghost use Rattle.dj_verify.specs.Verified.{IsTyped, IsVerifyFault};
@@ -15,11 +16,13 @@ use crate::fault::VerifyFault;
 use crate::padding::entry;
 use crate::subject::Subject;
 use dj_code::{Code, Typed};
+use dj_effects::Known;
 use dj_frames::Frame;
 use dj_headers::Headers;
 use dj_names::Items;
 use dj_tags::{Goes, Laxly};
-use std::alloc::Global;
+use std::alloc::{AllocError, Global};
+use std::marker::Model;
 
 /// The table of frames of code that begins with this one, or its first violation.
 fn check_all<G: Goes>(
@@ -65,37 +68,84 @@ fn frames_by<G: Goes>(
 }
 
 /// The table of frames of code, or its first violation.
-pub fn frames_of<G: Goes>(alloc: Global, goes: &G, code: &Code) -> Result<Items<Frame>, VerifyFault>
+pub fn frames_of<G: Goes>(
+    alloc: Global,
+    goes: &G,
+    known: &Known,
+    code: &Code,
+) -> Result<Items<Frame>, VerifyFault>
+    requires known { IsKnown known.now }
     requires rising { IsRising (view_instructions code.now.instructions) }
     ensures table { IfOk result (λ frames. IsFrameTable (G.relation goes.now) (G.known goes.now) (view_code code.now) (map view_frame frames)) }
     ensures unverified { IfErr result (IsVerifyFault (G.relation goes.now) (G.known goes.now) (view_code code.now)) }
 {
-    let subject = Subject::new(alloc, code)?;
+    let subject = Subject::new(alloc, known, code)?;
     frames_by(alloc, goes, &subject)
 }
 
 /// The same by what the machine asks of references.
-fn lax_frames(alloc: Global, headers: &Headers, code: &Code) -> Result<Items<Frame>, VerifyFault>
+fn lax_frames(
+    alloc: Global,
+    headers: &Headers,
+    known: &Known,
+    code: &Code,
+) -> Result<Items<Frame>, VerifyFault>
+    requires known { IsKnown known.now }
     requires rising { IsRising (view_instructions code.now.instructions) }
     ensures table { IfOk result (λ frames. IsFrameTable (lax.Laxly headers.now) headers.now (view_code code.now) (map view_frame frames)) }
     ensures unverified { IfErr result (IsVerifyFault (lax.Laxly headers.now) headers.now (view_code code.now)) }
 {
     let laxly = Laxly { headers };
-    let found = frames_of(alloc, &laxly, code);
+    let found = frames_of(alloc, &laxly, known, code);
     let Laxly { headers: _ } = laxly;
     found
 }
 
-/// The code with its table of frames. An error tells the first violation, by the order in which
-/// instructions stand, or that there is no memory.
+/// What verifies the code of methods, one after another: the types that instructions name by themselves are made once.
+#[derive(Drop)]
+pub struct Verifier {
+    known: Known,
+}
+
+impl Model for Verifier {
+    ghost use Rattle.dj_effects.specs.Doing.{IsKnown};
+
+    ghost Value = { Unit {0} };
+
+    ghost view = { λ _. tt };
+
+    ghost invariant = { λ verifier. IsKnown verifier.known };
+}
+
+impl Verifier {
+    /// What verifies code.
+    pub fn new(alloc: Global) -> Result<Verifier, AllocError> {
+        let known = Known::new(alloc)?;
+        Ok(Verifier { known })
+    }
+
+    /// The code with its table of frames. An error tells the first violation, by the order in which
+    /// instructions stand, or that there is no memory.
+    pub fn verify(&self, alloc: Global, headers: &Headers, code: Code) -> Result<Typed, VerifyFault>
+        requires rising { IsRising (view_instructions code.instructions) }
+        ensures same { IfOk result (λ typed. typed.code ≡ code) }
+        ensures typed { IfOk result (λ typed. IsTyped (lax.Laxly headers.now) headers.now (view_typed typed)) }
+        ensures unverified { IfErr result (IsVerifyFault (lax.Laxly headers.now) headers.now (view_code code)) }
+    {
+        match lax_frames(alloc, headers, &self.known, &code) {
+            Ok(frames) => Ok(Typed { code, frames }),
+            Err(fault) => Err(fault),
+        }
+    }
+}
+
+/// The same of one method's code alone.
 pub fn verify(alloc: Global, headers: &Headers, code: Code) -> Result<Typed, VerifyFault>
     requires rising { IsRising (view_instructions code.instructions) }
     ensures same { IfOk result (λ typed. typed.code ≡ code) }
     ensures typed { IfOk result (λ typed. IsTyped (lax.Laxly headers.now) headers.now (view_typed typed)) }
     ensures unverified { IfErr result (IsVerifyFault (lax.Laxly headers.now) headers.now (view_code code)) }
 {
-    match lax_frames(alloc, headers, &code) {
-        Ok(frames) => Ok(Typed { code, frames }),
-        Err(fault) => Err(fault),
-    }
+    let verifier = Verifier::new(alloc)?;
+    verifier.verify(alloc, headers, code)
 }
