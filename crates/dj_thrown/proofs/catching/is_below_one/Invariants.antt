@@ -1,0 +1,6 @@
+use Rattle.std.proofs.Common.{◌≡◌, drop}
+use Rattle.dj_thrown.specs.Catching as spec
+use Rattle.dj_thrown.proofs.catching.is_below_one.Given as goal
+
+abbrev pub invariant-loop-one : goal.invariant-loop-one
+invariant-loop-one l = spec.is_below_one l.headers l.class (drop l.one-index l.above) ≡ spec.is_below_one l.headers l.class l.above
