@@ -1,0 +1,9 @@
+pub mod WhereLemmas
+pub mod ThrowLemmas
+pub mod SimpleLemmas
+pub mod KeepingLemmas
+pub mod ListLemmas
+pub mod LoopLemmas
+pub mod SwitchLemmas
+pub mod PieceLemmas
+pub mod ShowLemmas
