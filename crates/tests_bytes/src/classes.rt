@@ -25,11 +25,6 @@ fn part(from: usize, to: usize) -> &'static [u8] {
     longer().get(from..to).unwrap_or(&[])
 }
 
-/// The class that the bytes are, copied.
-fn copied(alloc: Global, bytes: &[u8]) -> Result<ClassFile, ClassFault> {
-    Ok(read_class(alloc, bytes, 50)?.copy(alloc)?)
-}
-
 /// The version, the flags, and how many entries and methods the class has.
 fn numbers(class: &ClassFile) -> [usize; 4] {
     [
@@ -40,59 +35,87 @@ fn numbers(class: &ClassFile) -> [usize; 4] {
     ]
 }
 
-/// Whether a copy of the class's only method is called `f` and has a code.
-fn has_its_method(alloc: Global, class: &ClassFile) -> Result<bool, AllocError> {
-    let [method] = class.methods.as_slice() else {
-        return Ok(false);
-    };
-    let copy = method.copy(alloc)?;
-    Ok(copy.name.as_slice() == [0x66].as_slice() && copy.code.is_some())
+/// Whether the class's only method is called `f` and has a code.
+fn has_its_method(class: &ClassFile) -> bool {
+    match class.methods.as_slice() {
+        [method] => method.name.as_slice() == [0x66].as_slice() && method.code.is_some(),
+        _ => false,
+    }
 }
 
-/// Whether a copy of the pool begins with a text, behind the index that has no entry.
-fn has_its_text(alloc: Global, pool: &Pool) -> Result<bool, AllocError> {
-    let copy = pool.copy(alloc)?;
-    let [Entry::Skip, first, ..] = copy.as_slice() else {
-        return Ok(false);
-    };
-    Ok(matches!(first.copy(alloc)?, Entry::Utf8(_)))
+/// Whether the pool begins with a text, behind the index that has no entry.
+fn has_its_text(pool: &Pool) -> bool {
+    matches!(pool.as_slice(), [Entry::Skip, Entry::Utf8(_), ..])
 }
 
-#[test]
-fn a_class_is_read_and_copied(rt: HostRuntime) -> Result<(), Fail> {
-    let class = copied(rt.alloc(), part(0, 102))?;
-    assert_eq!(rt; numbers(&class), [52, 0x21, 8, 1]);
-    assert!(rt; has_its_method(rt.alloc(), &class)?);
-    assert!(rt; has_its_text(rt.alloc(), &class.pool)?);
-    Ok(())
+/// The numbers of a class, where it has its method and its text.
+fn seen(class: &ClassFile) -> Option<[usize; 4]> {
+    (has_its_method(class) && has_its_text(&class.pool)).then_some(numbers(class))
 }
 
-/// What is wrong with the bytes, where they are no class.
-fn broken(alloc: Global, bytes: &[u8]) -> Result<Option<(BrokenKind, u32)>, AllocError> {
+/// What is told of bytes.
+#[derive(Clone, Copy)]
+enum Told {
+    /// A class, and what is seen of a copy of it, whose pool and method are copies too.
+    Class(Option<[usize; 4]>),
+    Broken(BrokenKind, u32),
+}
+
+/// What is told of a class.
+fn told_of_class(alloc: Global, class: &ClassFile) -> Result<Told, AllocError> {
+    let copy = class.copy(alloc)?;
+    Ok(Told::Class(seen(&copy)))
+}
+
+/// What is told of the bytes.
+fn told_of(alloc: Global, bytes: &[u8]) -> Result<Told, AllocError> {
     match read_class(alloc, bytes, 50) {
-        Ok(_) => Ok(None),
-        Err(ClassFault::Broken { kind, offset }) => Ok(Some((kind, offset))),
+        Ok(class) => told_of_class(alloc, &class),
+        Err(ClassFault::Broken { kind, offset }) => Ok(Told::Broken(kind, offset)),
         Err(ClassFault::Memory(error)) => Err(error),
     }
 }
 
-/// Whether the bytes end before the class does.
-fn is_cut(alloc: Global, bytes: &[u8]) -> Result<bool, AllocError> {
-    Ok(matches!(broken(alloc, bytes)?, Some((BrokenKind::Short, _))))
+/// Whether the bytes are the class.
+fn is_class(alloc: Global, bytes: &[u8]) -> Result<bool, AllocError> {
+    match told_of(alloc, bytes)? {
+        Told::Class(Some(seen)) => Ok(seen == [52, 0x21, 8, 1]),
+        Told::Class(None) => Ok(false),
+        Told::Broken(_, _) => Ok(false),
+    }
 }
 
 #[test]
-fn fewer_bytes_or_more_are_no_class(rt: HostRuntime) -> Result<(), Fail> {
+fn a_class_is_read_and_copied(rt: HostRuntime) -> Result<(), Fail> {
+    assert!(rt; is_class(rt.alloc(), part(0, 102))?);
+    Ok(())
+}
+
+/// Whether the bytes end before the class does.
+fn is_cut(alloc: Global, bytes: &[u8]) -> Result<bool, AllocError> {
+    Ok(matches!(told_of(alloc, bytes)?, Told::Broken(BrokenKind::Short, _)))
+}
+
+#[test]
+fn fewer_bytes_are_no_class(rt: HostRuntime) -> Result<(), Fail> {
     for end in 0..102 {
         assert!(rt; is_cut(rt.alloc(), part(0, end))?, "at {end}");
     }
-    assert_eq!(rt;
-        broken(rt.alloc(), part(0, 101))?,
-        Some((BrokenKind::Short, 100))
-    );
-    assert_eq!(rt;
-        broken(rt.alloc(), part(0, 103))?,
-        Some((BrokenKind::Trailing, 102))
-    );
+    Ok(())
+}
+
+/// Whether the first hundred bytes and one more are broken where they end, and all bytes at the last one.
+fn are_broken_at_their_ends(alloc: Global) -> Result<bool, AllocError> {
+    let short = told_of(alloc, part(0, 101))?;
+    let trailing = told_of(alloc, part(0, 103))?;
+    Ok(
+        matches!(short, Told::Broken(BrokenKind::Short, 100))
+            && matches!(trailing, Told::Broken(BrokenKind::Trailing, 102)),
+    )
+}
+
+#[test]
+fn a_fault_has_its_offset(rt: HostRuntime) -> Result<(), Fail> {
+    assert!(rt; are_broken_at_their_ends(rt.alloc())?);
     Ok(())
 }

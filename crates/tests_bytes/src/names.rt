@@ -35,73 +35,102 @@ fn has_its_parts(descriptor: &Descriptor) -> bool {
     matches!(element.get(), JType::Int) && name.as_slice() == [65].as_slice()
 }
 
-fn copied_descriptor(alloc: Global, text: &str) -> Result<Descriptor, NameFault> {
-    let read = read_descriptor(alloc, &units(alloc, text)?)?;
-    Ok(read.copy(alloc)?)
+fn descriptor(alloc: Global, text: &str) -> Result<Descriptor, NameFault> {
+    let units = units(alloc, text)?;
+    read_descriptor(alloc, &units)
+}
+
+/// Whether a copy of the descriptor is `([ILA;J)V`.
+fn has_its_parts_copied(alloc: Global, descriptor: &Descriptor) -> Result<bool, NameFault> {
+    let copy = descriptor.copy(alloc)?;
+    Ok(has_its_parts(&copy))
+}
+
+/// Whether the text is read as `([ILA;J)V`, and copied.
+fn is_read_and_copied(alloc: Global, text: &str) -> Result<bool, NameFault> {
+    let read = descriptor(alloc, text)?;
+    has_its_parts_copied(alloc, &read)
 }
 
 #[test]
 fn a_copied_descriptor_has_its_parts(rt: HostRuntime) -> Result<(), Fail> {
-    let copy = copied_descriptor(rt.alloc(), "([ILA;J)V")?;
-    assert!(rt; has_its_parts(&copy));
+    assert!(rt; is_read_and_copied(rt.alloc(), "([ILA;J)V")?);
     Ok(())
 }
 
 /// Whether the name equals its copy and comes before the other.
-fn stands_before(alloc: Global, name: &ClassName, other: &ClassName) -> Result<bool, AllocError> {
-    Ok(*name == name.copy(alloc)? && name < other)
+fn stands_before(alloc: Global, name: &ClassName, other: &ClassName) -> Result<bool, NameFault> {
+    let copy = name.copy(alloc)?;
+    Ok(*name == copy && name < other)
+}
+
+/// Whether the first name equals its copy and comes before the second.
+fn are_in_order(alloc: Global, first: &str, second: &str) -> Result<bool, NameFault> {
+    let name = class_name(alloc, first)?;
+    let later = class_name(alloc, second)?;
+    stands_before(alloc, &name, &later)
 }
 
 #[test]
 fn names_are_compared(rt: HostRuntime) -> Result<(), Fail> {
-    let name = class_name(rt.alloc(), "a/B")?;
-    let later = class_name(rt.alloc(), "a/C")?;
-    assert!(rt; stands_before(rt.alloc(), &name, &later)?);
+    assert!(rt; are_in_order(rt.alloc(), "a/B", "a/C")?);
     Ok(())
 }
 
-fn shown(alloc: Global, name: &ClassName) -> Result<String, AllocError> {
-    format!(in alloc; "{name}")
+/// Whether a class's name is shown as this text.
+fn is_shown_as(alloc: Global, name: &ClassName, text: &str) -> Result<bool, NameFault> {
+    let shown = format!(in alloc; "{name}")?;
+    Ok(shown.as_str() == text)
+}
+
+/// Whether the name that is spelled so is shown so.
+fn is_shown(alloc: Global, text: &str) -> Result<bool, NameFault> {
+    let name = class_name(alloc, text)?;
+    is_shown_as(alloc, &name, text)
 }
 
 #[test]
 fn names_are_shown(rt: HostRuntime) -> Result<(), Fail> {
-    let name = class_name(rt.alloc(), "a/B")?;
-    assert_eq!(rt; shown(rt.alloc(), &name)?.as_str(), "a/B");
+    assert!(rt; is_shown(rt.alloc(), "a/B")?);
     Ok(())
 }
 
-fn field(alloc: Global) -> Result<Field, NameFault> {
-    Ok(Field {
+fn fields(alloc: Global) -> Result<Items<Field>, NameFault> {
+    let name = units(alloc, "x")?;
+    let field = Field {
         flags: 8,
-        name: units(alloc, "x")?,
+        name,
         descriptor: JType::Int,
         constant: Some(Constant::Int(5)),
-    })
+    };
+    Ok(one(alloc, field)?)
 }
 
-fn method(alloc: Global) -> Result<MethodHead, NameFault> {
-    Ok(MethodHead {
+fn methods(alloc: Global) -> Result<Items<MethodHead>, NameFault> {
+    let name = units(alloc, "f")?;
+    let method = MethodHead {
         flags: 8,
-        name: units(alloc, "f")?,
+        name,
         descriptor: Descriptor::Field(JType::Int),
         thrown: Items::new(alloc),
-    })
+    };
+    Ok(one(alloc, method)?)
 }
 
 fn members_of_a_class(alloc: Global) -> Result<ClassMembers, NameFault> {
+    let fields = fields(alloc)?;
+    let methods = methods(alloc)?;
     Ok(ClassMembers {
-        fields: one(alloc, field(alloc)?)?,
-        methods: one(alloc, method(alloc)?)?,
+        fields,
+        methods,
         named: Items::new(alloc),
     })
 }
 
-fn copied_members(alloc: Global) -> Result<Members, NameFault> {
-    let members = Members {
-        classes: one(alloc, members_of_a_class(alloc)?)?,
-    };
-    Ok(members.copy(alloc)?)
+fn members(alloc: Global) -> Result<Members, NameFault> {
+    let class = members_of_a_class(alloc)?;
+    let classes = one(alloc, class)?;
+    Ok(Members { classes })
 }
 
 /// Whether there is one class, with a field of the flags 8 and a method.
@@ -115,16 +144,32 @@ fn has_its_members(members: &Members) -> bool {
     field.flags == 8 && class.methods.len() == 1
 }
 
+/// Whether a copy of the members has one class, with a field of the flags 8 and a method.
+fn has_its_members_copied(alloc: Global, members: &Members) -> Result<bool, NameFault> {
+    let copy = members.copy(alloc)?;
+    Ok(has_its_members(&copy))
+}
+
+fn are_copied(alloc: Global) -> Result<bool, NameFault> {
+    let members = members(alloc)?;
+    has_its_members_copied(alloc, &members)
+}
+
 #[test]
 fn members_are_copied(rt: HostRuntime) -> Result<(), Fail> {
-    let copy = copied_members(rt.alloc())?;
-    assert!(rt; has_its_members(&copy));
+    assert!(rt; are_copied(rt.alloc())?);
     Ok(())
+}
+
+/// Whether a copy of the type of longs is one.
+fn is_long_copied(alloc: Global) -> Result<bool, AllocError> {
+    let kind = StaticType::Of(JType::Long);
+    let copy = kind.copy(alloc)?;
+    Ok(matches!(copy, StaticType::Of(JType::Long)))
 }
 
 #[test]
 fn static_types_are_copied(rt: HostRuntime) -> Result<(), Fail> {
-    let kind = StaticType::Of(JType::Long).copy(rt.alloc())?;
-    assert!(rt; matches!(kind, StaticType::Of(JType::Long)));
+    assert!(rt; is_long_copied(rt.alloc())?);
     Ok(())
 }

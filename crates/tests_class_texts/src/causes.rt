@@ -1,11 +1,16 @@
 //! Why classes, fields and methods without code aren't printed.
 
+ghost use Rattle.dj_class.specs.Views.{view_class};
+ghost use Rattle.dj_causes.specs.Tables.{AreCauses};
+
 use crate::files::{
     ANNOTATION, BELOW_UNPACKAGED, ENUM, FIELDS, INTERFACE, LIKE_A_VARIABLE, METHODS, PACKAGE, ROOT,
     UNPACKAGED,
 };
-use crate::made::{Made, world_of};
+use crate::made::{Telling, told_of};
 use dj_causes::{Cause, Causes, ClassCause, FieldCause};
+use dj_class::ClassFile;
+use dj_world::World;
 use std::alloc::{AllocError, Global};
 use std::test::*;
 
@@ -51,43 +56,31 @@ fn push_word(words: &mut String, word: &str) -> Result<(), AllocError> {
     Ok(())
 }
 
-/// The cause of the class that hexadecimal digits spell.
-fn class_cause_of(alloc: Global, digits: &str) -> Result<String, AllocError> {
-    match world_of(alloc, &[UNPACKAGED], digits)? {
-        Some(made) => of_class(alloc, &made),
-        None => format!(in alloc; "no class"),
-    }
-}
-
 /// The cause of a class.
-fn of_class(alloc: Global, made: &Made) -> Result<String, AllocError> {
-    let causes = Causes::new(alloc, &made.world, &made.class)?;
-    let cause = causes.class_cause(alloc, &made.world, &made.class)?;
+fn class_told(
+    alloc: Global,
+    world: &World,
+    class: &ClassFile,
+    causes: &Causes,
+) -> Result<String, AllocError>
+    requires made { AreCauses world.now (view_class class.now) causes.now }
+{
+    let cause = causes.class_cause(alloc, world, class)?;
     class_word(alloc, &cause)
 }
 
-/// The causes of the fields of the class that hexadecimal digits spell.
-fn field_causes_of(alloc: Global, digits: &str) -> Result<String, AllocError> {
-    match world_of(alloc, &[UNPACKAGED], digits)? {
-        Some(made) => of_fields(alloc, &made),
-        None => format!(in alloc; "no class"),
-    }
-}
-
-/// The causes of the methods of the class that hexadecimal digits spell.
-fn bare_causes_of(alloc: Global, digits: &str) -> Result<String, AllocError> {
-    match world_of(alloc, &[UNPACKAGED], digits)? {
-        Some(made) => of_methods(alloc, &made),
-        None => format!(in alloc; "no class"),
-    }
-}
-
 /// The causes of a class's fields.
-fn of_fields(alloc: Global, made: &Made) -> Result<String, AllocError> {
-    let causes = Causes::new(alloc, &made.world, &made.class)?;
+fn fields_told(
+    alloc: Global,
+    world: &World,
+    class: &ClassFile,
+    causes: &Causes,
+) -> Result<String, AllocError>
+    requires made { AreCauses world.now (view_class class.now) causes.now }
+{
     let mut words = String::new(alloc);
-    for at in 0..made.class.fields.len() {
-        let cause = causes.field_cause(alloc, &made.world, &made.class, at)?;
+    for at in 0..class.fields.len() {
+        let cause = causes.field_cause(alloc, world, class, at)?;
         let word = field_word(alloc, &cause)?;
         push_word(&mut words, word.as_str())?;
     }
@@ -95,15 +88,58 @@ fn of_fields(alloc: Global, made: &Made) -> Result<String, AllocError> {
 }
 
 /// The causes of a class's methods, as if they had no code.
-fn of_methods(alloc: Global, made: &Made) -> Result<String, AllocError> {
-    let causes = Causes::new(alloc, &made.world, &made.class)?;
+fn methods_told(
+    alloc: Global,
+    world: &World,
+    class: &ClassFile,
+    causes: &Causes,
+) -> Result<String, AllocError>
+    requires made { AreCauses world.now (view_class class.now) causes.now }
+{
     let mut words = String::new(alloc);
-    for at in 0..made.class.methods.len() {
-        let cause = causes.bare_cause(alloc, &made.world, &made.class, at)?;
+    for at in 0..class.methods.len() {
+        let cause = causes.bare_cause(alloc, world, class, at)?;
         let word = bare_word(alloc, &cause)?;
         push_word(&mut words, word.as_str())?;
     }
     Ok(words)
+}
+
+/// What is asked of a class: its own cause, or those of its fields or of its methods.
+#[derive(Clone, Copy)]
+enum Asked {
+    Class,
+    Fields,
+    Methods,
+}
+
+/// The causes that are asked for, of all that a class has.
+fn told(
+    alloc: Global,
+    asked: Asked,
+    world: &World,
+    class: &ClassFile,
+    causes: &Causes,
+) -> Result<String, AllocError>
+    requires made { AreCauses world.now (view_class class.now) causes.now }
+{
+    match asked {
+        Asked::Class => class_told(alloc, world, class, causes),
+        Asked::Fields => fields_told(alloc, world, class, causes),
+        Asked::Methods => methods_told(alloc, world, class, causes),
+    }
+}
+
+impl Telling for Asked {
+    fn tell(&self, alloc: Global, world: &World, class: &ClassFile) -> Result<String, AllocError> {
+        let causes = Causes::new(alloc, world, class)?;
+        told(alloc, *self, world, class, &causes)
+    }
+}
+
+/// The causes that are asked for, of the class that hexadecimal digits spell.
+fn causes_of(alloc: Global, asked: Asked, digits: &str) -> Result<String, AllocError> {
+    told_of(alloc, &asked, &[UNPACKAGED], digits)
 }
 
 /// A class, and what isn't printed of it by itself.
@@ -126,28 +162,37 @@ static CLASSES: [(&str, &str); 9] = [
 #[test]
 fn classes_have_their_causes(rt: HostRuntime) -> Result<(), Fail> {
     for row in classes() {
-        let word = class_cause_of(rt.alloc(), row.0)?;
+        let word = causes_of(rt.alloc(), Asked::Class, row.0)?;
         assert!(rt; word.as_str() == row.1, "{word}");
     }
     Ok(())
 }
 
+/// A class, and the causes of its fields.
+fn fields() -> (&'static str, &'static str) {
+    (
+        FIELDS,
+        "Name goto, Name U, -, Signature, Constant, Constant, Constant, -",
+    )
+}
+
 #[test]
 fn fields_have_their_causes(rt: HostRuntime) -> Result<(), Fail> {
-    let words = field_causes_of(rt.alloc(), FIELDS)?;
-    assert!(rt;
-        words.as_str() == "Name goto, Name U, -, Signature, Constant, Constant, Constant, -",
-        "{words}"
-    );
+    let row = fields();
+    let words = causes_of(rt.alloc(), Asked::Fields, row.0)?;
+    assert!(rt; words.as_str() == row.1, "{words}");
     Ok(())
+}
+
+/// A class, and the causes of its methods.
+fn methods() -> (&'static str, &'static str) {
+    (METHODS, "Name goto, Name U, Signature, -, -")
 }
 
 #[test]
 fn methods_have_their_causes(rt: HostRuntime) -> Result<(), Fail> {
-    let words = bare_causes_of(rt.alloc(), METHODS)?;
-    assert!(rt;
-        words.as_str() == "Name goto, Name U, Signature, -, -",
-        "{words}"
-    );
+    let row = methods();
+    let words = causes_of(rt.alloc(), Asked::Methods, row.0)?;
+    assert!(rt; words.as_str() == row.1, "{words}");
     Ok(())
 }

@@ -7,13 +7,6 @@ use std::alloc::{AllocError, Global};
 /// How many fields a class file has at most, how many methods, and how many classes are added here.
 const MOST: usize = 65_535;
 
-/// A class, and a world of it and others and of the core classes.
-#[derive(Drop)]
-pub struct Made {
-    pub world: World,
-    pub class: ClassFile,
-}
-
 /// The class that hexadecimal digits spell.
 fn class_of(alloc: Global, digits: &str) -> Result<Option<ClassFile>, AllocError> {
     let Ok(bytes) = hex::decode(alloc, digits.as_bytes()) else {
@@ -56,16 +49,52 @@ fn fill(world: &mut World) -> Result<(), AllocError> {
     Ok(())
 }
 
-/// A class, and a world of others before it, of it and of the core classes.
-pub fn world_of(alloc: Global, others: &[&str], digits: &str) -> Result<Option<Made>, AllocError> {
-    let Some(class) = class_of(alloc, digits)? else {
-        return Ok(None);
-    };
-    let mut world = World::new(alloc);
+/// Adds others, a class behind them, and the core classes.
+fn add_all(
+    alloc: Global,
+    world: &mut World,
+    others: &[&str],
+    class: &ClassFile,
+) -> Result<(), AllocError> {
     for other in others {
-        add_spelled(alloc, &mut world, other)?;
+        add_spelled(alloc, world, other)?;
     }
-    add(&mut world, &class)?;
-    fill(&mut world)?;
-    Ok(Some(Made { world, class }))
+    add(world, class)?;
+    fill(world)
+}
+
+/// A world of others, of a class behind them and of the core classes.
+fn world_with(alloc: Global, others: &[&str], class: &ClassFile) -> Result<World, AllocError> {
+    let mut world = World::new(alloc);
+    add_all(alloc, &mut world, others, class)?;
+    Ok(world)
+}
+
+/// What is told of a class in a world.
+pub trait Telling {
+    fn tell(&self, alloc: Global, world: &World, class: &ClassFile) -> Result<String, AllocError>;
+}
+
+/// What is told of a class in a world of others before it, of it and of the core classes.
+fn told_among<T: Telling>(
+    alloc: Global,
+    telling: &T,
+    others: &[&str],
+    class: &ClassFile,
+) -> Result<String, AllocError> {
+    let world = world_with(alloc, others, class)?;
+    telling.tell(alloc, &world, class)
+}
+
+/// The same of the class that hexadecimal digits spell.
+pub fn told_of<T: Telling>(
+    alloc: Global,
+    telling: &T,
+    others: &[&str],
+    digits: &str,
+) -> Result<String, AllocError> {
+    match class_of(alloc, digits)? {
+        Some(class) => told_among(alloc, telling, others, &class),
+        None => format!(in alloc; "no class"),
+    }
 }

@@ -1,14 +1,15 @@
 //! The texts of classes, given no body of a method, or one that throws again what it caught.
 
 use crate::files::{ABOVE, BELOW, CONSTANTS, RETHROWS};
-use crate::made::{Made, world_of};
+use crate::made::{Telling, told_of};
 use dj_causes::Causes;
-use dj_class::Method;
+use dj_class::{ClassFile, Method};
 use dj_class_text::class_text;
-use dj_names::Items;
+use dj_names::{ClassName, Items, Units};
 use dj_print::unit_bytes;
 use dj_syntax::{Body, Stm, Unit, Var, VarKind};
 use dj_well_formed::is_well_formed;
+use dj_world::World;
 use std::alloc::{AllocError, Global};
 use std::test::*;
 
@@ -24,37 +25,39 @@ fn no_bodies(alloc: Global, count: usize) -> Result<Items<Option<Body>>, AllocEr
 /// The unit of a class with these bodies, where there is one for each of its methods.
 fn unit_of(
     alloc: Global,
-    made: &Made,
+    world: &World,
+    class: &ClassFile,
     bodies: Items<Option<Body>>,
 ) -> Result<Option<Unit>, AllocError> {
-    if bodies.len() != made.class.methods.len() || made.class.methods.len() > 65_535 {
+    if bodies.len() != class.methods.len() || class.methods.len() > 65_535 {
         return Ok(None);
     }
-    let causes = Causes::new(alloc, &made.world, &made.class)?;
-    let unit = class_text(alloc, &made.world, &made.class, &causes, bodies)?;
+    let causes = Causes::new(alloc, world, class)?;
+    let unit = class_text(alloc, world, class, &causes, bodies)?;
     Ok(Some(unit))
 }
 
-/// The text of a class without the bodies of its methods; none of a unit that has no text.
-fn bare_text(alloc: Global, made: &Made) -> Result<Vec<u8>, AllocError> {
-    let bodies = no_bodies(alloc, made.class.methods.len())?;
-    match unit_of(alloc, made, bodies)? {
-        Some(unit) => {
-            if is_well_formed(&unit) {
-                unit_bytes(alloc, &unit)
-            } else {
-                Ok(Vec::new(alloc))
-            }
-        }
-        None => Ok(Vec::new(alloc)),
+/// The text of a unit; that of a unit that has none is empty.
+fn text_of_unit(alloc: Global, unit: &Unit) -> Result<String, AllocError> {
+    if !is_well_formed(unit) {
+        return Ok(String::new(alloc));
+    }
+    match String::from_utf8(unit_bytes(alloc, unit)?) {
+        Ok(text) => Ok(text),
+        Err(_) => Ok(String::new(alloc)),
     }
 }
 
-/// The text of the class that hexadecimal digits spell.
-fn text_of(alloc: Global, digits: &str) -> Result<Vec<u8>, AllocError> {
-    match world_of(alloc, &[], digits)? {
-        Some(made) => bare_text(alloc, &made),
-        None => Ok(Vec::new(alloc)),
+/// The text of a class without the bodies of its methods.
+struct BareText;
+
+impl Telling for BareText {
+    fn tell(&self, alloc: Global, world: &World, class: &ClassFile) -> Result<String, AllocError> {
+        let bodies = no_bodies(alloc, class.methods.len())?;
+        match unit_of(alloc, world, class, bodies)? {
+            Some(unit) => text_of_unit(alloc, &unit),
+            None => Ok(String::new(alloc)),
+        }
     }
 }
 
@@ -81,22 +84,28 @@ static TEXTS: [(&str, &str); 3] = [
 #[test]
 fn classes_have_their_texts(rt: HostRuntime) -> Result<(), Fail> {
     for row in texts() {
-        let text = text_of(rt.alloc(), row.0)?;
-        assert!(rt; text.as_slice() == row.1.as_bytes(), "{}", row.1);
+        let text = told_of(rt.alloc(), &BareText, &[], row.0)?;
+        assert!(rt; text.as_str() == row.1, "{text}");
     }
     Ok(())
 }
 
-/// The body of a method that throws again what it caught first.
-fn rethrowing(alloc: Global, made: &Made, method: &Method) -> Result<Body, AllocError> {
+/// A statement that throws again what was caught first.
+fn rethrow(alloc: Global) -> Result<Items<Stm>, AllocError> {
     let mut statements = Items::new(alloc);
     statements.push(Stm::Rethrow(Var {
         kind: VarKind::Caught,
         number: 0,
     }))?;
-    let class = made.class.this_class.copy(alloc)?;
+    Ok(statements)
+}
+
+/// The body of a method of this class that throws again what it caught first.
+fn rethrowing(alloc: Global, class: &ClassName, method: &Method) -> Result<Body, AllocError> {
+    let class = class.copy(alloc)?;
     let name = method.name.copy(alloc)?;
     let descriptor = method.descriptor.copy(alloc)?;
+    let statements = rethrow(alloc)?;
     Ok(Body {
         class,
         flags: method.flags,
@@ -107,32 +116,55 @@ fn rethrowing(alloc: Global, made: &Made, method: &Method) -> Result<Body, Alloc
     })
 }
 
-/// The unit of a class whose last method, of two, throws again what it caught.
-fn rethrowing_unit(alloc: Global, made: &Made) -> Result<Option<Unit>, AllocError> {
-    let [_, method] = made.class.methods.as_slice() else {
-        return Ok(None);
-    };
-    let body = rethrowing(alloc, made, method)?;
-    let mut bodies = Items::new(alloc);
-    bodies.push(None)?;
+/// No body of a first method, and that of a second one, which throws again what it caught.
+fn rethrowing_bodies(
+    alloc: Global,
+    class: &ClassName,
+    method: &Method,
+) -> Result<Items<Option<Body>>, AllocError> {
+    let mut bodies = no_bodies(alloc, 1)?;
+    let body = rethrowing(alloc, class, method)?;
     bodies.push(Some(body))?;
-    unit_of(alloc, made, bodies)
+    Ok(bodies)
 }
 
-/// The name of the helper of the class that hexadecimal digits spell, or of the class where it has none.
-fn helper_of(alloc: Global, digits: &str) -> Result<String, AllocError> {
-    let Some(made) = world_of(alloc, &[], digits)? else {
-        return format!(in alloc; "no class");
-    };
-    match rethrowing_unit(alloc, &made)? {
-        Some(unit) => format!(in alloc; "{}", unit.helper.unwrap_or(unit.name)),
-        None => format!(in alloc; "no unit"),
+/// The name of a unit's helper, or of its class where it has none.
+fn helper_in(unit: &Unit) -> &Units {
+    match &unit.helper {
+        Some(name) => name,
+        None => &unit.name,
     }
+}
+
+/// The name of the helper of a class whose last method, of two, throws again what it caught; that of the class where it
+/// has none.
+struct HelperTold;
+
+impl Telling for HelperTold {
+    fn tell(&self, alloc: Global, world: &World, class: &ClassFile) -> Result<String, AllocError> {
+        let [_, method] = class.methods.as_slice() else {
+            return format!(in alloc; "no method");
+        };
+        let bodies = rethrowing_bodies(alloc, &class.this_class, method)?;
+        match unit_of(alloc, world, class, bodies)? {
+            Some(unit) => {
+                let name = helper_in(&unit);
+                format!(in alloc; "{name}")
+            }
+            None => format!(in alloc; "no unit"),
+        }
+    }
+}
+
+/// A class, and the name of its helper.
+fn helper() -> (&'static str, &'static str) {
+    (RETHROWS, "rethrow$1")
 }
 
 #[test]
 fn a_helper_has_the_least_free_number(rt: HostRuntime) -> Result<(), Fail> {
-    let name = helper_of(rt.alloc(), RETHROWS)?;
-    assert!(rt; name.as_str() == "rethrow$1", "{name}");
+    let row = helper();
+    let name = told_of(rt.alloc(), &HelperTold, &[], row.0)?;
+    assert!(rt; name.as_str() == row.1, "{name}");
     Ok(())
 }

@@ -1,7 +1,9 @@
 //! The code of one method: what is read of it, and its first fault (JVMS 4.7.3, 4.7.4, 4.9.1).
+ghost use Rattle.std.specs.Prelude.{◌≡◌, Some, IsSome, slice_get};
+
 use dj_class::{ClassFault, ClassFile, Method, read_class};
 use dj_code::{BadKind, Code, CodeFault, Typed, read_code};
-use dj_frames::entry_frame;
+use dj_frames::{Frame, entry_frame};
 use dj_names::Items;
 use std::alloc::{AllocError, Global};
 use std::test::Fail;
@@ -29,7 +31,7 @@ fn head() -> &'static [u8] {
 }
 
 /// What is told of a method's code, as far as a test looks.
-#[derive(Clone, Copy, Debug, PartialEq, Eq)]
+#[derive(Clone, Copy, PartialEq)]
 enum Told {
     /// Code: how many instructions and handlers, and the pcs of its frames.
     Read(usize, usize, [u32; 2]),
@@ -64,120 +66,148 @@ fn read(code: &Code) -> Told {
     )
 }
 
-/// The code with the frame that its method begins with, copied.
-fn typed(
+/// The frame that a method begins with.
+fn first_frames(
     alloc: Global,
     class: &ClassFile,
     method: &Method,
-    code: Code,
-) -> Result<Typed, AllocError> {
+) -> Result<Items<Frame>, AllocError> {
     let mut frames = Items::new(alloc);
     frames.push(entry_frame(alloc, &class.this_class, method)?)?;
-    Typed { code, frames }.copy(alloc)
+    Ok(frames)
 }
 
-/// What is told of the method whose Code has this content.
-fn answer_to(alloc: Global, content: &[u8]) -> Result<Told, AllocError> {
-    let bytes = class_with(alloc, content)?;
-    match read_class(alloc, bytes.as_slice(), 50) {
-        Ok(class) => match class.methods.get(0) {
-            Some(method) => {
-                if method.code.is_none() {
-                    return Ok(Told::NoClass);
-                }
-                match read_code(alloc, &class, 0) {
-                    Ok(code) => Ok(read(&typed(alloc, &class, method, code)?.code)),
-                    Err(CodeFault::BadCode { pc, kind }) => Ok(Told::Bad(pc, kind)),
-                    Err(CodeFault::Memory(error)) => Err(error),
-                }
+/// What is told of code with frames, copied.
+fn told_of_typed(alloc: Global, typed: &Typed) -> Result<Told, AllocError> {
+    let copy = typed.copy(alloc)?;
+    Ok(read(&copy.code))
+}
+
+/// What is told of the code of a method, the first one of its class.
+fn told_of_method(alloc: Global, class: &ClassFile, method: &Method) -> Result<Told, AllocError>
+    requires first { slice_get class.now.methods 0 ≡ Some method.now }
+    requires coded { IsSome method.now.code }
+{
+    let frames = first_frames(alloc, class, method)?;
+    match read_code(alloc, class, 0) {
+        Ok(code) => told_of_typed(alloc, &Typed { code, frames }),
+        Err(CodeFault::BadCode { pc, kind }) => Ok(Told::Bad(pc, kind)),
+        Err(CodeFault::Memory(error)) => Err(error),
+    }
+}
+
+/// What is told of the code of a class's first method.
+fn told_of_class(alloc: Global, class: &ClassFile) -> Result<Told, AllocError> {
+    match class.methods.get(0) {
+        Some(method) => {
+            if method.code.is_none() {
+                return Ok(Told::NoClass);
             }
-            None => Ok(Told::NoClass),
-        },
+            told_of_method(alloc, class, method)
+        }
+        None => Ok(Told::NoClass),
+    }
+}
+
+/// What is told of the class that the bytes are.
+fn told_of(alloc: Global, bytes: &[u8]) -> Result<Told, AllocError> {
+    match read_class(alloc, bytes, 50) {
+        Ok(class) => told_of_class(alloc, &class),
         Err(ClassFault::Broken { .. }) => Ok(Told::NoClass),
         Err(ClassFault::Memory(error)) => Err(error),
     }
 }
 
+/// What is told of the method whose Code has this content.
+fn answer_to(alloc: Global, content: &[u8]) -> Result<Told, AllocError> {
+    let bytes = class_with(alloc, content)?;
+    told_of(alloc, bytes.as_slice())
+}
+
 /// Contents of a Code, each with what is told of it.
-fn rows() -> [(&'static [u8], Told); 14] {
-    [
-        // A jump into its own operand.
-        (
-            b"\x00\x02\x00\x02\x00\x00\x00\x03\xa7\x00\x01\x00\x00\x00\x00",
-            Told::Bad(0, BadKind::Target),
-        ),
-        // A handler in an operand, of the entry that starts at 2.
-        (
-            b"\x00\x02\x00\x02\x00\x00\x00\x03\x10\x05\xac\x00\x02\x00\x00\x00\x03\x00\x00\x00\x00\x00\x02\x00\x03\x00\x01\x00\x00\x00\x00",
-            Told::Bad(2, BadKind::Target),
-        ),
-        // A range that ends before it starts.
-        (
-            b"\x00\x02\x00\x02\x00\x00\x00\x03\x10\x05\xac\x00\x01\x00\x02\x00\x00\x00\x00\x00\x00\x00\x00",
-            Told::Bad(2, BadKind::Range),
-        ),
-        // A range that takes a text.
-        (
-            b"\x00\x02\x00\x02\x00\x00\x00\x03\x10\x05\xac\x00\x01\x00\x00\x00\x03\x00\x00\x00\x01\x00\x00",
-            Told::Bad(0, BadKind::Range),
-        ),
-        // A range up to the end.
-        (
-            b"\x00\x02\x00\x02\x00\x00\x00\x03\x10\x05\xac\x00\x01\x00\x00\x00\x03\x00\x00\x00\x02\x00\x00",
-            Told::Read(2, 1, [99_999, 99_999]),
-        ),
-        // Frames at 0 and 11.
-        (
-            b"\x00\x02\x00\x02\x00\x00\x00\x0d\x1a\x1b\xa2\x00\x09\x84\x00\x01\xa7\xff\xf8\x1a\xac\x00\x00\x00\x01\x00\x08\x00\x00\x00\x04\x00\x02\x00\x0a",
-            Told::Read(7, 0, [0, 11]),
-        ),
-        // A frame at 1, and then one at 3, where nothing begins.
-        (
-            b"\x00\x02\x00\x02\x00\x00\x00\x0d\x1a\x1b\xa2\x00\x09\x84\x00\x01\xa7\xff\xf8\x1a\xac\x00\x00\x00\x01\x00\x08\x00\x00\x00\x04\x00\x02\x01\x01",
-            Told::Bad(1, BadKind::Frame),
-        ),
-        // Two values, of which three are chopped.
-        (
-            b"\x00\x02\x00\x02\x00\x00\x00\x0d\x1a\x1b\xa2\x00\x09\x84\x00\x01\xa7\xff\xf8\x1a\xac\x00\x00\x00\x01\x00\x08\x00\x00\x00\x05\x00\x01\xf8\x00\x00",
-            Told::Bad(0, BadKind::Frame),
-        ),
-        // A byte behind the last frame, at 11.
-        (
-            b"\x00\x02\x00\x02\x00\x00\x00\x0d\x1a\x1b\xa2\x00\x09\x84\x00\x01\xa7\xff\xf8\x1a\xac\x00\x00\x00\x01\x00\x08\x00\x00\x00\x04\x00\x01\x0b\x00",
-            Told::Bad(11, BadKind::Frame),
-        ),
-        // Two tables.
-        (
-            b"\x00\x02\x00\x02\x00\x00\x00\x0d\x1a\x1b\xa2\x00\x09\x84\x00\x01\xa7\xff\xf8\x1a\xac\x00\x00\x00\x02\x00\x08\x00\x00\x00\x03\x00\x01\x0b\x00\x08\x00\x00\x00\x02\x00\x00",
-            Told::Bad(11, BadKind::Frame),
-        ),
-        // An unborn object of no `new`.
-        (
-            b"\x00\x02\x00\x02\x00\x00\x00\x0d\x1a\x1b\xa2\x00\x09\x84\x00\x01\xa7\xff\xf8\x1a\xac\x00\x00\x00\x01\x00\x08\x00\x00\x00\x06\x00\x01\x40\x08\x00\x00",
-            Told::Bad(0, BadKind::Frame),
-        ),
-        // An opcode that there isn't, and a jump before it to nowhere.
-        (
-            b"\x00\x02\x00\x02\x00\x00\x00\x04\xa7\x00\x01\xff\x00\x00\x00\x00",
-            Told::Bad(3, BadKind::Opcode),
-        ),
-        // An instruction of each kind that names something, and both switches.
-        (
-            b"\x00\x02\x00\x02\x00\x00\x00\x5d\x12\x10\x12\x02\x12\x11\x12\x12\xb2\x00\x0e\xb3\x00\x0e\xb4\x00\x0e\xb5\x00\x0e\xb6\x00\x0a\xb7\x00\x0a\xb8\x00\x0a\xb9\x00\x0b\x03\x00\xba\x00\x0f\x00\x00\xbb\x00\x02\xbd\x00\x02\xc5\x00\x14\x02\xc0\x00\x02\xc1\x00\x02\xaa\x00\x00\x00\x11\x00\x00\x00\x00\x00\x00\x00\x00\x00\x00\x00\x11\xab\x00\x00\x00\x00\x00\x00\x14\x00\x00\x00\x01\x00\x00\x00\x05\x00\x00\x00\x14\xac\x00\x00\x00\x00",
-            Told::Read(21, 0, [99_999, 99_999]),
-        ),
-        // A byte less than the code says.
-        (
-            b"\x00\x02\x00\x02\x00\x00\x00\x03\x10\x05\xac\x00\x00\x00",
-            Told::Bad(0, BadKind::CutOff),
-        ),
-    ]
+static ROWS: [(&[u8], Told); 14] = [
+    // A jump into its own operand.
+    (
+        b"\x00\x02\x00\x02\x00\x00\x00\x03\xa7\x00\x01\x00\x00\x00\x00",
+        Told::Bad(0, BadKind::Target),
+    ),
+    // A handler in an operand, of the entry that starts at 2.
+    (
+        b"\x00\x02\x00\x02\x00\x00\x00\x03\x10\x05\xac\x00\x02\x00\x00\x00\x03\x00\x00\x00\x00\x00\x02\x00\x03\x00\x01\x00\x00\x00\x00",
+        Told::Bad(2, BadKind::Target),
+    ),
+    // A range that ends before it starts.
+    (
+        b"\x00\x02\x00\x02\x00\x00\x00\x03\x10\x05\xac\x00\x01\x00\x02\x00\x00\x00\x00\x00\x00\x00\x00",
+        Told::Bad(2, BadKind::Range),
+    ),
+    // A range that takes a text.
+    (
+        b"\x00\x02\x00\x02\x00\x00\x00\x03\x10\x05\xac\x00\x01\x00\x00\x00\x03\x00\x00\x00\x01\x00\x00",
+        Told::Bad(0, BadKind::Range),
+    ),
+    // A range up to the end.
+    (
+        b"\x00\x02\x00\x02\x00\x00\x00\x03\x10\x05\xac\x00\x01\x00\x00\x00\x03\x00\x00\x00\x02\x00\x00",
+        Told::Read(2, 1, [99_999, 99_999]),
+    ),
+    // Frames at 0 and 11.
+    (
+        b"\x00\x02\x00\x02\x00\x00\x00\x0d\x1a\x1b\xa2\x00\x09\x84\x00\x01\xa7\xff\xf8\x1a\xac\x00\x00\x00\x01\x00\x08\x00\x00\x00\x04\x00\x02\x00\x0a",
+        Told::Read(7, 0, [0, 11]),
+    ),
+    // A frame at 1, and then one at 3, where nothing begins.
+    (
+        b"\x00\x02\x00\x02\x00\x00\x00\x0d\x1a\x1b\xa2\x00\x09\x84\x00\x01\xa7\xff\xf8\x1a\xac\x00\x00\x00\x01\x00\x08\x00\x00\x00\x04\x00\x02\x01\x01",
+        Told::Bad(1, BadKind::Frame),
+    ),
+    // Two values, of which three are chopped.
+    (
+        b"\x00\x02\x00\x02\x00\x00\x00\x0d\x1a\x1b\xa2\x00\x09\x84\x00\x01\xa7\xff\xf8\x1a\xac\x00\x00\x00\x01\x00\x08\x00\x00\x00\x05\x00\x01\xf8\x00\x00",
+        Told::Bad(0, BadKind::Frame),
+    ),
+    // A byte behind the last frame, at 11.
+    (
+        b"\x00\x02\x00\x02\x00\x00\x00\x0d\x1a\x1b\xa2\x00\x09\x84\x00\x01\xa7\xff\xf8\x1a\xac\x00\x00\x00\x01\x00\x08\x00\x00\x00\x04\x00\x01\x0b\x00",
+        Told::Bad(11, BadKind::Frame),
+    ),
+    // Two tables.
+    (
+        b"\x00\x02\x00\x02\x00\x00\x00\x0d\x1a\x1b\xa2\x00\x09\x84\x00\x01\xa7\xff\xf8\x1a\xac\x00\x00\x00\x02\x00\x08\x00\x00\x00\x03\x00\x01\x0b\x00\x08\x00\x00\x00\x02\x00\x00",
+        Told::Bad(11, BadKind::Frame),
+    ),
+    // An unborn object of no `new`.
+    (
+        b"\x00\x02\x00\x02\x00\x00\x00\x0d\x1a\x1b\xa2\x00\x09\x84\x00\x01\xa7\xff\xf8\x1a\xac\x00\x00\x00\x01\x00\x08\x00\x00\x00\x06\x00\x01\x40\x08\x00\x00",
+        Told::Bad(0, BadKind::Frame),
+    ),
+    // An opcode that there isn't, and a jump before it to nowhere.
+    (
+        b"\x00\x02\x00\x02\x00\x00\x00\x04\xa7\x00\x01\xff\x00\x00\x00\x00",
+        Told::Bad(3, BadKind::Opcode),
+    ),
+    // An instruction of each kind that names something, and both switches.
+    (
+        b"\x00\x02\x00\x02\x00\x00\x00\x5d\x12\x10\x12\x02\x12\x11\x12\x12\xb2\x00\x0e\xb3\x00\x0e\xb4\x00\x0e\xb5\x00\x0e\xb6\x00\x0a\xb7\x00\x0a\xb8\x00\x0a\xb9\x00\x0b\x03\x00\xba\x00\x0f\x00\x00\xbb\x00\x02\xbd\x00\x02\xc5\x00\x14\x02\xc0\x00\x02\xc1\x00\x02\xaa\x00\x00\x00\x11\x00\x00\x00\x00\x00\x00\x00\x00\x00\x00\x00\x11\xab\x00\x00\x00\x00\x00\x00\x14\x00\x00\x00\x01\x00\x00\x00\x05\x00\x00\x00\x14\xac\x00\x00\x00\x00",
+        Told::Read(21, 0, [99_999, 99_999]),
+    ),
+    // A byte less than the code says.
+    (
+        b"\x00\x02\x00\x02\x00\x00\x00\x03\x10\x05\xac\x00\x00\x00",
+        Told::Bad(0, BadKind::CutOff),
+    ),
+];
+
+/// The rows, of which proofs carry no list.
+fn rows() -> &'static [(&'static [u8], Told)] {
+    &ROWS
 }
 
 #[test]
 fn code_is_read_or_its_first_fault_is_told(rt: HostRuntime) -> Result<(), Fail> {
-    for (content, expected) in rows() {
-        assert_eq!(rt; answer_to(rt.alloc(), content)?, expected);
+    for (at, row) in rows().iter().enumerate() {
+        let told = answer_to(rt.alloc(), row.0)?;
+        assert!(rt; told == row.1, "row {at}");
     }
     Ok(())
 }

@@ -35,16 +35,24 @@ fn choose_far() -> &'static [u8] {
     ]
 }
 
+/// An entry of the pool, by its index below seven.
+fn entry(alloc: Global, index: usize) -> Result<Entry, AllocError> {
+    match index {
+        1 => Ok(Entry::Long(5)),
+        3 => Ok(Entry::Utf8(Units::from_slice(alloc, &[0x5b, 0x49])?)),
+        4 => Ok(Entry::Class(3)),
+        5 => Ok(Entry::Utf8(Units::from_slice(alloc, &[0x43])?)),
+        6 => Ok(Entry::Class(5)),
+        _ => Ok(Entry::Skip),
+    }
+}
+
 /// A pool with a long at 1, the class of arrays of `int` at 4, and the class `C` at 6.
 fn pool(alloc: Global) -> Result<Pool, AllocError> {
     let mut entries = Items::new(alloc);
-    entries.push(Entry::Skip)?;
-    entries.push(Entry::Long(5))?;
-    entries.push(Entry::Skip)?;
-    entries.push(Entry::Utf8(Units::from_slice(alloc, &[0x5b, 0x49])?))?;
-    entries.push(Entry::Class(3))?;
-    entries.push(Entry::Utf8(Units::from_slice(alloc, &[0x43])?))?;
-    entries.push(Entry::Class(5))?;
+    for index in 0..7 {
+        entries.push(entry(alloc, index)?)?;
+    }
     Pool::new(alloc, entries)
 }
 
@@ -97,9 +105,9 @@ fn are_lines(alloc: Global, code: &[u8], lines: &[(u32, char, i64)]) -> bool {
     }
 }
 
-#[test]
-fn a_loop_is_read(rt: HostRuntime) {
-    let lines = [
+/// The lines of `spin`.
+fn spin_lines() -> &'static [(u32, char, i64)] {
+    &[
         (0, 'p', 0),
         (1, 's', 1),
         (2, 'g', 8),
@@ -108,8 +116,12 @@ fn a_loop_is_read(rt: HostRuntime) {
         (9, 'p', 100),
         (11, 'c', 5),
         (14, 'r', 0),
-    ];
-    assert!(rt; are_lines(rt.alloc(), spin(), &lines));
+    ]
+}
+
+#[test]
+fn a_loop_is_read(rt: HostRuntime) {
+    assert!(rt; are_lines(rt.alloc(), spin(), spin_lines()));
 }
 
 /// Whether the second instruction is a switch with these targets, the last for what is no key.
@@ -136,13 +148,28 @@ fn has_targets(
     })
 }
 
+/// Whether a code is a switch with these targets.
+fn is_switch(alloc: Global, code: &[u8], wanted: &[u32], last: u32) -> bool {
+    match has_targets(alloc, code, wanted, last) {
+        Ok(has) => has,
+        Err(_) => false,
+    }
+}
+
+/// The targets of `chooseNear`.
+fn near_targets() -> &'static [u32] {
+    &[28, 30, 32]
+}
+
+/// The targets of `chooseFar`.
+fn far_targets() -> &'static [u32] {
+    &[36, 38, 40]
+}
+
 #[test]
-fn switches_are_read(rt: HostRuntime) -> Result<(), Fail> {
-    let near = has_targets(rt.alloc(), choose_near(), &[28, 30, 32], 34);
-    assert!(rt; near.ok().ok_or("a listing")?);
-    let far = has_targets(rt.alloc(), choose_far(), &[36, 38, 40], 42);
-    assert!(rt; far.ok().ok_or("a listing")?);
-    Ok(())
+fn switches_are_read(rt: HostRuntime) {
+    assert!(rt; is_switch(rt.alloc(), choose_near(), near_targets(), 34));
+    assert!(rt; is_switch(rt.alloc(), choose_far(), far_targets(), 42));
 }
 
 /// Whether a code is bad in this way at this pc.
@@ -154,27 +181,42 @@ fn is_bad(alloc: Global, code: &[u8], kind: BadKind, offset: usize) -> bool {
     }
 }
 
-#[test]
-fn bad_instructions_are_told(rt: HostRuntime) {
-    let opcodes: [&[u8]; 7] = [
-        // `jsr`, and an opcode that `wide` doesn't go before
-        &[0xa8, 0, 3],
-        &[0xc4, 0],
-        // `ldc` of a long, `new` of an array, more sizes than the array has
-        &[0x12, 1],
-        &[0xbb, 0, 4],
-        &[0xc5, 0, 4, 2],
-        // keys from 1 to 0, and the key 7 twice
+/// Codes that are bad, each with how and where.
+static BAD_CODES: [(&[u8], BadKind, usize); 9] = [
+    // `jsr`, and an opcode that `wide` doesn't go before
+    (&[0xa8, 0, 3], BadKind::Opcode, 0),
+    (&[0xc4, 0], BadKind::Opcode, 0),
+    // `ldc` of a long, `new` of an array, more sizes than the array has
+    (&[0x12, 1], BadKind::Opcode, 0),
+    (&[0xbb, 0, 4], BadKind::Opcode, 0),
+    (&[0xc5, 0, 4, 2], BadKind::Opcode, 0),
+    // keys from 1 to 0, and the key 7 twice
+    (
         &[0xaa, 0, 0, 0, 0, 0, 0, 0, 0, 0, 0, 1, 0, 0, 0, 0],
+        BadKind::Opcode,
+        0,
+    ),
+    (
         &[
             0xab, 0, 0, 0, 0, 0, 0, 0, 0, 0, 0, 2, 0, 0, 0, 7, 0, 0, 0, 0, 0, 0, 0, 7, 0, 0, 0, 0,
         ],
-    ];
-    for code in opcodes {
-        assert!(rt; is_bad(rt.alloc(), code, BadKind::Opcode, 0));
+        BadKind::Opcode,
+        0,
+    ),
+    (&[0, 0xc4], BadKind::CutOff, 1),
+    (&[0x04, 0x10], BadKind::CutOff, 1),
+];
+
+/// The codes, of which proofs carry no list.
+fn bad_codes() -> &'static [(&'static [u8], BadKind, usize)] {
+    &BAD_CODES
+}
+
+#[test]
+fn bad_instructions_are_told(rt: HostRuntime) {
+    for (code, kind, offset) in bad_codes() {
+        assert!(rt; is_bad(rt.alloc(), code, *kind, *offset));
     }
-    assert!(rt; is_bad(rt.alloc(), &[0, 0xc4], BadKind::CutOff, 1));
-    assert!(rt; is_bad(rt.alloc(), &[0x04, 0x10], BadKind::CutOff, 1));
 }
 
 /// Whether the pool's classes are an array of ints and a class.
