@@ -51,6 +51,7 @@ abbrev mutual
   reads_each around set place NoExps = NoRule
   reads_each around set place (AndExp first rest) = reads around set place first and reads_each around (after_exp around first set) (place + weight_of_exp first) rest
 
+-- the rules of an expression, if there is one
 abbrev pub option_reads : Surroundings → Set → ℕ → Option Exp → Rules
 option_reads around set place None = NoRule
 option_reads around set place (Some exp) = reads around set place exp

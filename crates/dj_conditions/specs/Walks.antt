@@ -12,12 +12,15 @@ use Rattle.dj_conditions.specs.declared.walk.Walk.{Walk}
 
 -- ---- places and rules
 
+-- at this place
 abbrev pub at_place : ℕ → Walk → Walk
 at_place place walk = record { place = place; fault = walk.fault; unassigned = walk.unassigned }
 
+-- past so many places
 abbrev pub skip : ℕ → Walk → Walk
 skip places walk = at_place (told (walk.place + places)) walk
 
+-- past one place
 abbrev pub step : Walk → Walk
 step walk = skip 1 walk
 
@@ -31,12 +34,15 @@ read variable walk = record {
 
 -- ---- what isn't assigned
 
+-- with these variables not assigned
 abbrev pub from : List Var → Walk → Walk
 from unassigned walk = record { place = walk.place; fault = walk.fault; unassigned = unassigned }
 
+-- a variable is assigned
 abbrev pub write : Var → Walk → Walk
 write variable walk = from (removed variable walk.unassigned) walk
 
+-- a variable is declared, and not assigned
 abbrev pub forget : Var → Walk → Walk
 forget variable walk = from (union walk.unassigned (variable ∷ [])) walk
 
@@ -49,6 +55,7 @@ pub record Sides : Type 0 where
   pub walk : Walk
   pub otherwise : List Var
 
+-- not assigned alike, whichever way the condition comes out
 abbrev pub same_sides : Walk → Sides
 same_sides walk = record { walk = walk; otherwise = walk.unassigned }
 
@@ -74,13 +81,16 @@ joined_sides otherwise one = record { walk = one.walk; otherwise = union otherwi
 abbrev pub look_behind : Bool → Sides → (Walk → Walk) → Walk
 look_behind wanted left right = meet_with (turned wanted left).otherwise (right (turned wanted left).walk)
 
+-- what a second condition leaves on each side, which is evaluated where the first comes out as wanted
 abbrev pub test_behind : Bool → Sides → (Walk → Sides) → Sides
 test_behind wanted left right = turned wanted (joined_sides (turned wanted left).otherwise (turned wanted (right (turned wanted left).walk)))
 
+-- behind an operator: its right operand is evaluated always, or where the left one comes out as wanted
 abbrev pub look_operator : Option Bool → Walk → Sides → (Walk → Walk) → Walk
 look_operator None plain left right = right plain
 look_operator (Some wanted) plain left right = look_behind wanted left right
 
+-- the same of a condition, with what it leaves on each side
 abbrev pub test_operator : Option Bool → Option Bool → Walk → Sides → (Walk → Walk) → (Walk → Sides) → Sides
 test_operator None known plain left look test = sides known (look plain)
 test_operator (Some wanted) known plain left look test = test_behind wanted left test
@@ -151,6 +161,7 @@ abbrev mutual
       record { walk = meet_with two.walk.unassigned three.walk; otherwise = union two.otherwise three.otherwise }
   test around (Assign variable value) walk = same_sides (write variable (look around value (step walk)))
 
+-- behind an expression, if there is one
 abbrev pub look_option : Surroundings → Option Exp → Walk → Walk
 look_option around None walk = walk
 look_option around (Some exp) walk = look around exp walk

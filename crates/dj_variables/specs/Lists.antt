@@ -9,6 +9,7 @@ use Rattle.dj_variables.specs.Sets.{Set}
 abbrev pub is_lower : Var → Var → Bool
 is_lower first second = nat_lt first.number second.number || ((first.number == second.number) && nat_lt (letter first.kind) (letter second.kind))
 
+-- the variable is lower than each of the list
 abbrev pub IsBelow : Var → List Var → Type 0
 IsBelow variable [] = Unit {0}
 IsBelow variable (first ∷ rest) = (is_lower variable first ≡ true) × IsBelow variable rest
@@ -18,6 +19,7 @@ abbrev pub IsRising : List Var → Type 0
 IsRising [] = Unit {0}
 IsRising (first ∷ rest) = IsBelow first rest × IsRising rest
 
+-- the variable is one of the list
 abbrev pub is_among : Var → List Var → Bool
 is_among variable [] = false
 is_among variable (first ∷ rest) = is_same_variable variable first || is_among variable rest
@@ -31,6 +33,7 @@ pub record Keeps (list : List Var) (set : Set) : Type 0 where
   pub rises : IsRising list
   pub leaves : all_but list ≡ set
 
+-- a list without a variable
 abbrev pub removed : Var → List Var → List Var
 removed variable [] = []
 removed variable (first ∷ rest) = if is_same_variable first variable then removed variable rest else first ∷ removed variable rest
@@ -40,14 +43,17 @@ abbrev pub lower_part : Var → List Var → List Var
 lower_part at [] = []
 lower_part at (first ∷ rest) = if is_lower first at then first ∷ lower_part at rest else []
 
+-- of a rising list, what is not lower than a variable
 abbrev pub from_there : Var → List Var → List Var
 from_there at [] = []
 from_there at (first ∷ rest) = if is_lower first at then from_there at rest else first ∷ rest
 
+-- a list begins with the variable
 abbrev pub begins_with : Var → List Var → Bool
 begins_with at [] = false
 begins_with at (first ∷ rest) = is_same_variable first at
 
+-- of a rising list, what is higher than a variable
 abbrev pub upper_part : Var → List Var → List Var
 upper_part at [] = []
 upper_part at (first ∷ rest) = if is_lower first at then upper_part at rest else if is_same_variable first at then rest else first ∷ rest

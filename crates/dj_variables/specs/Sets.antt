@@ -3,9 +3,11 @@ use Rattle.std.specs.Prelude.{Bool, true, not, ◌&&◌, ◌||◌}
 use Rattle.dj_syntax.specs.declared.variable.Var.{Var}
 use Rattle.dj_meaning.specs.StaticTypes.{is_same_variable}
 
+-- a set of variables, told by what is in it
 abbrev pub Set : Type 0
 Set = Var → Bool
 
+-- the set of all variables
 abbrev pub everything : Set
 everything = λ variable. true
 
