@@ -1,21 +1,19 @@
 //! Instructions that work on locals (JVMS 4.10.1.7).
 
-ghost use Rattle.std.specs.Prelude.{◌≡◌, ◌<◌, ◌^◌, ℕ, IsTrue, ◌↔◌, slice_get, slice_set, IfOk, OnOk};
+ghost use Rattle.std.specs.Prelude.{◌≡◌, ◌<◌, ◌^◌, IsTrue, ◌↔◌, slice_get, slice_set, IfOk, OnOk};
 ghost use Rattle.dj_frames.specs.Frames.{view_tag, view_tags};
-ghost use Rattle.dj_code.specs.MethodCode as spec;
 ghost use Rattle.dj_code.specs.MethodCode.{view_code};
-ghost use Rattle.dj_instructions.specs.Instructions.{view_instruction};
 ghost use Rattle.dj_tags.specs.Goes.{words};
 ghost use Rattle.dj_effects.specs.Works.{Loads, Stores, Counts};
 ghost use Rattle.dj_effects.specs.Rows.{work};
-ghost use Rattle.dj_effects.specs.Effects.{or_top, cut_below, stored, kind_words, locals_needed};
+ghost use Rattle.dj_effects.specs.Effects.{or_top, cut_below, stored, kind_words};
 ghost use Rattle.dj_effects.specs.Doing.{view_working};
 ghost use Rattle.dj_applying.specs.Done.{Did};
 
 use dj_code::Code;
 use dj_effects::{Working, has_kind};
 use dj_frames::{Slots, Tag};
-use dj_instructions::{Instruction, Kind};
+use dj_instructions::Kind;
 use dj_tags::Goes;
 use std::alloc::{AllocError, Global};
 

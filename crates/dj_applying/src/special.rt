@@ -3,7 +3,7 @@
 ghost use Rattle.std.specs.Prelude.{◌≡◌, ◌++◌, ◌∷◌, [], IfOk};
 ghost use Rattle.std.specs.Option.{option_map};
 ghost use Rattle.dj_names.specs.Types.{Class, view_type, view_types};
-ghost use Rattle.dj_frames.specs.Frames.{Object, view_tag, view_tags};
+ghost use Rattle.dj_frames.specs.Frames.{Object, view_tag};
 ghost use Rattle.dj_code.specs.MethodCode.{view_code};
 ghost use Rattle.dj_effects.specs.Works.{Of, Elements, Sets, Supers, Leaves};
 ghost use Rattle.dj_effects.specs.Rows.{arguments};

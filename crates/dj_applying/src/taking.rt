@@ -1,6 +1,6 @@
 //! Instructions that take entries from the stack and put one there.
 
-ghost use Rattle.std.specs.Prelude.{◌≡◌, ◌++◌, ◌∷◌, [], ◌↔◌, Some, None, replicate, IsTrue, IsSomeAnd, IfOk, OnOk, map, option_map, slice_get};
+ghost use Rattle.std.specs.Prelude.{◌≡◌, ◌++◌, ◌∷◌, [], ◌↔◌, Some, None, replicate, IsTrue, IsSomeAnd, IfOk, OnOk, option_map, slice_get};
 ghost use Rattle.dj_names.specs.Types.{view_types};
 ghost use Rattle.dj_frames.specs.Frames.{Int, view_tag, view_tags};
 ghost use Rattle.dj_code.specs.MethodCode.{view_code};
@@ -16,7 +16,7 @@ use dj_effects::{Stack, Want, Working, is_wanted};
 use dj_frames::Tag;
 use dj_names::JType;
 use dj_tags::Goes;
-use std::alloc::{AllocError, Global};
+use std::alloc::AllocError;
 
 /// Whether the entry with so many on top of it is what is wanted.
 fn has_at<G: Goes>(goes: &G, stack: &Stack, depth: usize, want: Want<'_>) -> bool

@@ -49,10 +49,12 @@ passed_over (Do body test) set = set
 passed_over (For test variable step body) set = set
 passed_over (Finally body last) set = set
 
+-- the same of a list of statements
 abbrev pub list_passed_over : Stms → sets.Set → sets.Set
 list_passed_over Empty set = set
 list_passed_over (And first rest) set = list_passed_over rest (passed_over first set)
 
+-- the same of the groups of a `switch`
 abbrev pub groups_passed_over : Groups → sets.Set → sets.Set
 groups_passed_over NoGroups set = set
 groups_passed_over (AndGroup labels body rest) set = groups_passed_over rest (list_passed_over body set)

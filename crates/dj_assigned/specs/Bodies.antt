@@ -9,5 +9,6 @@ use Rattle.dj_places.specs.Surroundings.{around_body}
 use Rattle.dj_variables.specs.Sets.{everything}
 use Rattle.dj_assigned.specs.Assigned.{list_reads}
 
+-- the rules of a body: each variable is assigned where it is read
 abbrev pub body_reads : List Header → List ClassMembers → Body → Rules
 body_reads headers members body = list_reads (around_body headers members body) everything 0 body.statements

@@ -107,10 +107,12 @@ jumped_over (Do body condition) unassigned = unassigned
 jumped_over (For condition variable next body) unassigned = unassigned
 jumped_over (Finally body last) unassigned = unassigned
 
+-- the same of a list of statements
 abbrev pub list_jumped_over : Stms → List Var → List Var
 list_jumped_over Empty unassigned = unassigned
 list_jumped_over (And first rest) unassigned = list_jumped_over rest (jumped_over first unassigned)
 
+-- the same of the groups of a `switch`
 abbrev pub groups_jumped_over : Groups → List Var → List Var
 groups_jumped_over NoGroups unassigned = unassigned
 groups_jumped_over (AndGroup labels body rest) unassigned = groups_jumped_over rest (list_jumped_over body unassigned)

@@ -33,27 +33,35 @@ shuffled (form ∷ forms) stack = if has_words form.takes stack then Some (moved
 abbrev pub takes_gives : List ℕ → List ℕ → Form
 takes_gives takes gives = record { takes = takes; gives = gives }
 
+-- `pop`: one word off
 abbrev pub pop_forms : List Form
 pop_forms = takes_gives (1 ∷ []) [] ∷ []
 
+-- `pop2`: two words off, of one value or of two
 abbrev pub pop2_forms : List Form
 pop2_forms = takes_gives (1 ∷ 1 ∷ []) [] ∷ takes_gives (2 ∷ []) [] ∷ []
 
+-- `dup`: the top word twice
 abbrev pub dup_forms : List Form
 dup_forms = takes_gives (1 ∷ []) (0 ∷ 0 ∷ []) ∷ []
 
+-- `dup_x1`: the top word once more below the second
 abbrev pub dup_x1_forms : List Form
 dup_x1_forms = takes_gives (1 ∷ 1 ∷ []) (0 ∷ 1 ∷ 0 ∷ []) ∷ []
 
+-- `dup_x2`: the top word once more below two words
 abbrev pub dup_x2_forms : List Form
 dup_x2_forms = takes_gives (1 ∷ 1 ∷ 1 ∷ []) (0 ∷ 1 ∷ 2 ∷ 0 ∷ []) ∷ takes_gives (1 ∷ 2 ∷ []) (0 ∷ 1 ∷ 0 ∷ []) ∷ []
 
+-- `dup2`: the two top words twice
 abbrev pub dup2_forms : List Form
 dup2_forms = takes_gives (1 ∷ 1 ∷ []) (0 ∷ 1 ∷ 0 ∷ 1 ∷ []) ∷ takes_gives (2 ∷ []) (0 ∷ 0 ∷ []) ∷ []
 
+-- `dup2_x1`: the two top words once more below a third
 abbrev pub dup2_x1_forms : List Form
 dup2_x1_forms = takes_gives (1 ∷ 1 ∷ 1 ∷ []) (0 ∷ 1 ∷ 2 ∷ 0 ∷ 1 ∷ []) ∷ takes_gives (2 ∷ 1 ∷ []) (0 ∷ 1 ∷ 0 ∷ []) ∷ []
 
+-- `dup2_x2`: the two top words once more below two others
 abbrev pub dup2_x2_forms : List Form
 dup2_x2_forms =
     takes_gives (1 ∷ 1 ∷ 1 ∷ 1 ∷ []) (0 ∷ 1 ∷ 2 ∷ 3 ∷ 0 ∷ 1 ∷ [])
@@ -62,5 +70,6 @@ dup2_x2_forms =
     ∷ takes_gives (2 ∷ 2 ∷ []) (0 ∷ 1 ∷ 0 ∷ [])
     ∷ []
 
+-- `swap`: the two top words the other way round
 abbrev pub swap_forms : List Form
 swap_forms = takes_gives (1 ∷ 1 ∷ []) (1 ∷ 0 ∷ []) ∷ []

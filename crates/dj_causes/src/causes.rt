@@ -1,6 +1,6 @@
 //! The causes of a class and of its members; each member's is found once.
 
-ghost use Rattle.std.specs.Prelude.{◌≡◌, ◌↔◌, ◌<◌, None, length, map, Contains, IsTrue, IsSomeAnd, IfOk, slice_get};
+ghost use Rattle.std.specs.Prelude.{◌≡◌, ◌↔◌, ◌<◌, None, length, Contains, IsTrue, IsSomeAnd, IfOk, slice_get};
 ghost use Rattle.dj_class.specs.Described.{ClassOf};
 ghost use Rattle.dj_class.specs.Views.{view_class};
 ghost use Rattle.dj_world.specs.Worlds.{WorldOf};

@@ -5,7 +5,7 @@ ghost use Rattle.dj_names.specs.Headers.{Name};
 ghost use Rattle.dj_class.specs.Views.{view_field, view_class};
 ghost use Rattle.dj_sayable.specs.Scopes.{IsScope};
 ghost use Rattle.dj_causes.specs.Firsts.{IsFirstWith};
-ghost use Rattle.dj_causes.specs.ClassCauses.{DescribesPackage, IsFirstUnsaid, IsFirstUnset, IsSaid, parent_names};
+ghost use Rattle.dj_causes.specs.ClassCauses.{DescribesPackage, IsFirstUnset, IsSaid, parent_names};
 
 use crate::constants::lacks_constant;
 use crate::unsaid::{is_unsaid, units_of};

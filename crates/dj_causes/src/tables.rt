@@ -1,9 +1,7 @@
 //! What is made once of a class to tell the causes of it and of its members, and the causes.
 
-ghost use Rattle.std.specs.Prelude.{◌≡◌, ◌↔◌, ◌<◌, List, [], ◌∷◌, ◌++◌, Any, Some, None, map, length, MatchOption, Contains, IsTrue, IsSomeAnd, IfOk, IfSome, slice_get};
+ghost use Rattle.std.specs.Prelude.{◌≡◌, ◌↔◌, ◌<◌, [], ◌∷◌, ◌++◌, Any, Some, None, map, length, MatchOption, Contains, IsTrue, IsSomeAnd, IfOk, IfSome, slice_get};
 ghost use Rattle.dj_names.specs.Headers.{Name};
-ghost use Rattle.dj_names.specs.Types.{view_descriptor};
-ghost use Rattle.dj_world.specs.Named.{NamesClass};
 ghost use Rattle.dj_class.specs.Described.{ClassOf};
 ghost use Rattle.dj_class.specs.Views.{view_class, view_field};
 ghost use Rattle.dj_sayable.specs.Scopes.{IsScope};

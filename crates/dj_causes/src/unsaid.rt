@@ -1,6 +1,6 @@
 //! Names of classes that the text of a class can't say.
 
-ghost use Rattle.std.specs.Prelude.{◌≡◌, ◌↔◌, ◌++◌, ◌∷◌, [], List, Any, Some, Contains, IsSomeAnd, IsTrue, OnOk, IfOk};
+ghost use Rattle.std.specs.Prelude.{◌≡◌, ◌↔◌, ◌++◌, ◌∷◌, [], Any, Some, Contains, IsSomeAnd, IsTrue, OnOk, IfOk};
 ghost use Rattle.dj_names.specs.Headers.{Name};
 ghost use Rattle.dj_names.specs.Types.{view_type, view_descriptor};
 ghost use Rattle.dj_world.specs.Named.{class_of, NamesClass};

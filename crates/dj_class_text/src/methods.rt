@@ -2,7 +2,6 @@
 
 ghost use Rattle.std.specs.Prelude.{◌≡◌, ◌<◌, ◌++◌, Some, None, map, option_map, length, reverse, IfOk, OnOk, MatchOption};
 ghost use Rattle.std.specs.Option.{option_to_list};
-ghost use Rattle.dj_names.specs.Types.{view_descriptor};
 ghost use Rattle.dj_syntax.specs.Trees as trees;
 ghost use Rattle.dj_syntax.specs.Trees.{view_body};
 ghost use Rattle.dj_syntax.specs.UnitText.{is_interface};

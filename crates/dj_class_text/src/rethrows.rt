@@ -1,6 +1,6 @@
 //! Which statements throw again what they caught.
 
-ghost use Rattle.std.specs.Prelude.{◌≡◌, map, option_map};
+ghost use Rattle.std.specs.Prelude.{◌≡◌, map};
 ghost use Rattle.dj_syntax.specs.Trees.{view_catches, view_groups, view_stm, view_stms, view_method};
 ghost use Rattle.dj_class_text.specs.Rethrows.{has_rethrow, have_rethrow, groups_have_rethrow, catches_have_rethrow};
 ghost use Rattle.dj_class_text.specs.Helpers.{methods_have_rethrow};

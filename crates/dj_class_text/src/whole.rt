@@ -1,7 +1,6 @@
 //! The unit of a class, given the bodies of its methods (JVMS 4.1).
 
 ghost use Rattle.std.specs.Prelude.{◌≡◌, ◌<◌, ◌^◌, map, option_map, length, IfOk};
-ghost use Rattle.dj_syntax.specs.Trees as trees;
 ghost use Rattle.dj_syntax.specs.Trees.{view_unit, view_body};
 ghost use Rattle.dj_syntax.specs.UnitText.{is_interface};
 ghost use Rattle.dj_class.specs.Views.{view_class};

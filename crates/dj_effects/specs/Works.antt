@@ -42,34 +42,44 @@ pub data Work : Type 0 where
 
 -- ---- the ways in which the stack is rearranged (JVMS 6.5, `pop` to `swap`)
 
+-- values of so many words each are taken, and these of them given back
 abbrev pub form : List ℕ → List ℕ → Form
 form takes gives = record { takes = takes; gives = gives }
 
+-- one word off
 abbrev pub pop_forms : List Form
 pop_forms = form (1 ∷ []) [] ∷ []  -- pop
 
+-- two words off, of one value or of two
 abbrev pub pop2_forms : List Form
 pop2_forms = form (1 ∷ 1 ∷ []) [] ∷ form (2 ∷ []) [] ∷ []  -- pop2
 
+-- the top word twice
 abbrev pub dup_forms : List Form
 dup_forms = form (1 ∷ []) (0 ∷ 0 ∷ []) ∷ []  -- dup
 
+-- the top word once more below the second
 abbrev pub dup_x1_forms : List Form
 dup_x1_forms = form (1 ∷ 1 ∷ []) (0 ∷ 1 ∷ 0 ∷ []) ∷ []  -- dup_x1
 
+-- the top word once more below two words
 abbrev pub dup_x2_forms : List Form
 dup_x2_forms = form (1 ∷ 1 ∷ 1 ∷ []) (0 ∷ 1 ∷ 2 ∷ 0 ∷ []) ∷ form (1 ∷ 2 ∷ []) (0 ∷ 1 ∷ 0 ∷ []) ∷ []  -- dup_x2
 
+-- the two top words twice
 abbrev pub dup2_forms : List Form
 dup2_forms = form (1 ∷ 1 ∷ []) (0 ∷ 1 ∷ 0 ∷ 1 ∷ []) ∷ form (2 ∷ []) (0 ∷ 0 ∷ []) ∷ []  -- dup2
 
+-- the two top words once more below a third
 abbrev pub dup2_x1_forms : List Form
 dup2_x1_forms = form (1 ∷ 1 ∷ 1 ∷ []) (0 ∷ 1 ∷ 2 ∷ 0 ∷ 1 ∷ []) ∷ form (2 ∷ 1 ∷ []) (0 ∷ 1 ∷ 0 ∷ []) ∷ []  -- dup2_x1
 
+-- the two top words once more below two others
 abbrev pub dup2_x2_forms : List Form
 dup2_x2_forms =  -- dup2_x2
     form (1 ∷ 1 ∷ 1 ∷ 1 ∷ []) (0 ∷ 1 ∷ 2 ∷ 3 ∷ 0 ∷ 1 ∷ []) ∷ form (2 ∷ 1 ∷ 1 ∷ []) (0 ∷ 1 ∷ 2 ∷ 0 ∷ [])
     ∷ form (1 ∷ 1 ∷ 2 ∷ []) (0 ∷ 1 ∷ 2 ∷ 0 ∷ 1 ∷ []) ∷ form (2 ∷ 2 ∷ []) (0 ∷ 1 ∷ 0 ∷ []) ∷ []
 
+-- the two top words the other way round
 abbrev pub swap_forms : List Form
 swap_forms = form (1 ∷ 1 ∷ []) (1 ∷ 0 ∷ []) ∷ []  -- swap

@@ -1,12 +1,11 @@
 //! What instructions want of the entries of the stack.
 
 ghost use Rattle.std.specs.Prelude.{◌≡◌, ◌↔◌, IsTrue, true};
-ghost use Rattle.dj_names.specs.Types.{view_type, view_types};
-ghost use Rattle.dj_frames.specs.Frames.{view_tag, view_tags, tag_of};
+ghost use Rattle.dj_names.specs.Types.{view_type};
+ghost use Rattle.dj_frames.specs.Frames.{view_tag, tag_of};
 ghost use Rattle.dj_tags.specs.Goes.{LocalGoes};
-ghost use Rattle.dj_effects.specs.Rows.{arguments};
-ghost use Rattle.dj_effects.specs.Operands.{is_reference, is_array_of, is_byte_or_boolean, HasKind, IsWanted, AreWanted};
-ghost use Rattle.dj_effects.specs.Doing.{view_want, view_wants};
+ghost use Rattle.dj_effects.specs.Operands.{is_reference, is_array_of, is_byte_or_boolean, HasKind, IsWanted};
+ghost use Rattle.dj_effects.specs.Doing.{view_want};
 
 use dj_frames::Tag;
 use dj_instructions::Kind;

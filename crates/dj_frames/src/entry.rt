@@ -1,7 +1,7 @@
 //! The frame that a method begins with (JVMS 4.10.1.6).
 
 ghost use Rattle.std.specs.Prelude.{◌≡◌, ◌++◌, ◌↔◌, map, IfOk};
-ghost use Rattle.dj_names.specs.Types.{view_type, view_types, parameters_of};
+ghost use Rattle.dj_names.specs.Types.{view_types};
 ghost use Rattle.dj_class.specs.Views.{view_method};
 ghost use Rattle.dj_frames.specs.Frames.{view_tag, view_tags, view_frame, tag_of, has_unborn_this, this_of, receiver_of, entry_values, entry_frame};
 

@@ -1,6 +1,6 @@
 //! The locals of a method as they change from frame to frame (JVMS 4.7.4).
 
-ghost use Rattle.std.specs.Prelude.{◌≡◌, ◌<◌, ◌≤◌, ◌-◌, ◌++◌, ◌∷◌, [], length, take, flat_map, position, option_map, IfOk, OnOk, IsTrue, MatchOption, List};
+ghost use Rattle.std.specs.Prelude.{◌≡◌, ◌<◌, ◌≤◌, ◌-◌, ◌++◌, ◌∷◌, [], length, take, flat_map, position, IfOk, OnOk, IsTrue, MatchOption, List};
 ghost use Rattle.dj_frames.specs.Frames.{view_tag, view_tags, view_frame, slots_of, is_unborn_this, frame_of};
 ghost use Rattle.dj_frames.specs.declared.tag.Tag as spec_tag;
 ghost use Rattle.dj_frames.specs.Locals.{IsFront};

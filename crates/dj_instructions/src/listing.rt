@@ -1,11 +1,10 @@
 //! The instructions of a method's code (JVMS 4.7.3, 4.9.1).
 
 ghost use Rattle.std.specs.Prelude.{◌≡◌, ◌≢◌, ◌≤◌, length, [], Ok, Err, IfOk, IfErr};
-ghost use Rattle.std.specs.Option.{option_copied, option_map};
 ghost use Rattle.dj_layout.specs.declared.fault.Fault.{Fault};
 ghost use Rattle.dj_layout.specs.Whole.{Gives};
 ghost use Rattle.dj_instructions.specs.declared.kinds.BadKind as kinds;
-ghost use Rattle.dj_instructions.specs.Instructions.{Instructions, IsRising, instruction_at, view_instruction, view_instructions};
+ghost use Rattle.dj_instructions.specs.Instructions.{Instructions, IsRising, view_instructions};
 ghost use Rattle.dj_instructions.specs.Listing.{IsListing, HasBadInstruction, IsBad, IsRead};
 
 use crate::instruction::Instruction;

@@ -5,7 +5,7 @@ ghost use Rattle.std.specs.Option.{option_map};
 ghost use Rattle.dj_names.specs.Types.{view_type, view_descriptor};
 ghost use Rattle.dj_pool.specs.declared.entry.Entry.TheVariants.{InvokeDynamic};
 ghost use Rattle.dj_instructions.specs.Instructions.{view_field_ref, view_method_ref, view_instruction};
-ghost use Rattle.dj_instructions.specs.PoolNames.{view_member, view_reference};
+ghost use Rattle.dj_instructions.specs.PoolNames.{view_reference};
 ghost use Rattle.dj_instructions.specs.PoolMeanings.{Known, OfReference, OfMember, field_with, method_with, field_of, method_of, access, access_of, call, call_of, is_plain_name, dynamic_call, dynamic};
 ghost use Rattle.dj_instructions.specs.Answers.{IsAnswer};
 

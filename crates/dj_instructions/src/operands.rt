@@ -12,14 +12,12 @@ ghost use Rattle.dj_instructions.specs.RawInstructions.{form_of, can_be_wide, wi
 ghost use Rattle.dj_instructions.specs.Meanings.{wide};
 ghost use Rattle.dj_instructions.specs.Reads.{HasAnswer};
 
-use crate::alone::alone;
 use crate::form::{Form, form_of};
 use crate::instruction::Instruction;
 use crate::jumps::target;
 use crate::kinds::BadKind;
 use crate::objects::sized_array_at;
 use crate::plain::{widened_load, with_byte, with_count, with_short};
-use crate::switches::{lookup_at, table_at};
 use dj_layout::{Stop, fault_at, u8_at, u16_at, u32_at};
 use dj_pool::Pool;
 use std::alloc::Global;

@@ -1,6 +1,5 @@
 //! An instruction, read as what it means (JVMS 6.5).
 
-ghost use Rattle.std.specs.Prelude.{IsTrue};
 ghost use Rattle.std.specs.Option.{option_map};
 ghost use Rattle.dj_layout.specs.Layout.{Reads, ReadsAs};
 ghost use Rattle.dj_layout.specs.Parts.{headed};

@@ -1,7 +1,7 @@
 //! The operands of switches (JVMS 6.5, `tableswitch`, `lookupswitch`).
 
-ghost use Rattle.std.specs.Prelude.{◌≡◌, List, ℕ, map};
-ghost use Rattle.std.specs.Int.{w32, cast_signed};
+ghost use Rattle.std.specs.Prelude.{◌≡◌, map};
+ghost use Rattle.std.specs.Int.{cast_signed};
 ghost use Rattle.std.specs.Option.{option_map};
 ghost use Rattle.dj_layout.specs.Layout.{Reads, ReadsAs};
 ghost use Rattle.dj_layout.specs.Parts.{times};

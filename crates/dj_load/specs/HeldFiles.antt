@@ -69,10 +69,11 @@ pub record OfDue (held : Option Files) (named : List (List ℕ)) (list : Option 
 
 -- ---- what files are
 
--- the oldest major version of a named file, that of Java SE 6, and of a library file, that of Java 1.1
+-- the oldest major version of a named file, that of Java SE 6
 abbrev pub oldest_named : ℕ
 oldest_named = 50
 
+-- the oldest major version of a library file, that of Java 1.1
 abbrev pub oldest_library : ℕ
 oldest_library = 45
 

@@ -3,7 +3,7 @@
 ghost use Rattle.std.specs.Prelude.{◌≡◌, ◌≤◌, ◌+◌, [], Some, None, length, map, take, IfOk, OnOk, IfErr};
 ghost use Rattle.std.specs.String.{string_bytes};
 ghost use Rattle.std.specs.Option.{option_map};
-ghost use Rattle.dj_load.specs.HeldFiles.{OfDue, listed_by, most_files, paths_in};
+ghost use Rattle.dj_load.specs.HeldFiles.{OfDue, most_files, paths_in};
 ghost use Rattle.dj_load.specs.Loads.{AsksFront, IsTooMuch, ReadFails, asked_with};
 ghost use Rattle.dj_load.specs.Loading.{AreLoaded, IsWithin, LoadsLibrary, LoadsMore, Stopped, StopsAfter, StopsLibrary, contents_of, paths_of};
 

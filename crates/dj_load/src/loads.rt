@@ -3,7 +3,7 @@
 ghost use Rattle.std.specs.Prelude.{◌≡◌, ◌≤◌, ◌<◌, ◌+◌, ◌⊎◌, [], ◌∷◌, length, IfOk, OnOk, IfErr};
 ghost use Rattle.dj_outer.specs.Count.{Rose};
 ghost use Rattle.dj_outer.specs.Files.{HasFile, with_asked};
-ghost use Rattle.dj_load.specs.HeldFiles.{most_bytes, most_files, most_together};
+ghost use Rattle.dj_load.specs.HeldFiles.{most_bytes, most_together};
 ghost use Rattle.dj_load.specs.Loading.{IsWithin, LoadsMore, StoppedAt, StopsAfter};
 
 use dj_outer::{Files, LoadFault, Loaded};

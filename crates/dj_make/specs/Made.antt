@@ -73,13 +73,15 @@ frames same = record { name = 6; content = (counted same_frame).spell same } ∷
 abbrev pub method : ℕ → List ℕ → RawMember
 method name content = record { flags = 9; name = name; descriptor = 7; attributes = record { name = 5; content = content } ∷ [] }
 
--- the methods, with frames at 0 and 11, and at 28, 30 and 33
+-- the method that adds, without frames
 abbrev pub adding : ℕ → RawMember
 adding k = method 8 (code_content (adding_code k) [])
 
+-- the method that counts, with frames at 0 and 11
 abbrev pub counting : ℕ → RawMember
 counting k = method 9 (code_content (counting_code k) (frames (0 ∷ 10 ∷ [])))
 
+-- the method that chooses, with frames at 28, 30 and 33
 abbrev pub choosing : ℕ → RawMember
 choosing k = method 10 (code_content (choosing_code k) (frames (28 ∷ 1 ∷ 2 ∷ [])))
 

@@ -9,9 +9,11 @@ use Rattle.dj_print.specs.Outs.{Compares, Grows, outcome, Tells}
 
 -- ---- memory
 
+-- a text to which nothing was added grew by nothing
 pub grows-nothing : (full : Bool) (held : List ℕ) → Grows full full held held []
 grows-nothing full held = record { room = λ is. is; grown = λ is. sym (append-nil held) }
 
+-- a text that grew by a first part and then by a second grew by both
 pub grows-then : {full_old full_between full_new : Bool} {old between new first second : List ℕ}
     → Grows full_old full_between old between first → Grows full_between full_new between new second → Grows full_old full_new old new (first ++ second)
 grows-then {old = old} {between = between} {new = new} {first = first} {second = second} one two = record {
@@ -21,6 +23,7 @@ grows-then {old = old} {between = between} {new = new} {first = first} {second =
 
 -- ---- a sink
 
+-- a sink that took nothing more was told nothing
 pub tells-nothing : (stopped : Bool) (taken : Option (List ℕ)) (faults : ℕ) → Tells stopped stopped taken taken faults faults []
 tells-nothing true taken faults = record { going = λ is. absurd (false≢true (sym is)); stopped = λ is. (refl, refl, refl) }
 tells-nothing false taken faults = record { going = λ is. puts-nothing taken faults; stopped = λ is. absurd (false≢true is) }
@@ -35,6 +38,7 @@ going-then true new {taken_old = taken_old} {taken_between = taken_between} {tak
     (subst (λ taken. Puts (outcome new) taken_old taken faults_old faults_between (first ++ second)) (sym same.1)
     (puts-stop (ap outcome same.0) second one))
 
+-- a sink that was told a first part and then a second was told both
 pub tells-then : {old between new : Bool} {taken_old taken_between taken_new : Option (List ℕ)} {faults_old faults_between faults_new : ℕ} {first second : List ℕ}
     → Tells old between taken_old taken_between faults_old faults_between first → Tells between new taken_between taken_new faults_between faults_new second
     → Tells old new taken_old taken_new faults_old faults_new (first ++ second)
@@ -57,6 +61,7 @@ tells-stopped taken faults text = record { going = λ is. absurd (false≢true (
 
 -- ---- bytes that are compared
 
+-- bytes of which nothing more was compared begin with nothing
 pub compares-nothing : (differs : Bool) (left : List ℕ) → Compares differs differs left left []
 compares-nothing differs left = record { same = λ is. (is, refl); other = λ is also. absurd (false≢true (sym is ∙ also)) }
 
@@ -70,6 +75,7 @@ other-then false {left_between = left_between} {first = first} {second = second}
     two.other refl also rest
     (append_cancel_left first left_between (second ++ rest) (sym (one.same refl).1 ∙ whole ∙ append_assoc first second rest))
 
+-- bytes that were compared with a first part and then with a second were compared with both
 pub compares-then : {old between new : Bool} {left_old left_between left_new first second : List ℕ}
     → Compares old between left_old left_between first → Compares between new left_between left_new second
     → Compares old new left_old left_new (first ++ second)

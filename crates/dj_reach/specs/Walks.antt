@@ -22,18 +22,23 @@ view_site site = record { around = surroundings_of site.classes; may_return = si
 
 -- ---- places
 
+-- past so many places
 abbrev pub skip : ℕ → Walk → Walk
 skip places walk = record { place = told (walk.place + places); alive = walk.alive; fault = walk.fault; jumps = walk.jumps }
 
+-- past one place
 abbrev pub step : Walk → Walk
 step walk = skip 1 walk
 
+-- past an expression
 abbrev pub skip_exp : Exp → Walk → Walk
 skip_exp exp walk = skip (weight_of_exp exp) walk
 
+-- past expressions
 abbrev pub skip_exps : Exps → Walk → Walk
 skip_exps exps walk = skip (weight_of_exps exps) walk
 
+-- past an expression, if there is one
 abbrev pub skip_option : Option Exp → Walk → Walk
 skip_option exp walk = skip (weight_of_value exp) walk
 
@@ -43,9 +48,11 @@ note kept walk = record { place = walk.place; alive = walk.alive; fault = lower 
 
 -- ---- ways
 
+-- with this told of whether the place is reached
 abbrev pub with_alive : Bool → Walk → Walk
 with_alive alive walk = record { place = walk.place; alive = alive; fault = walk.fault; jumps = walk.jumps }
 
+-- with these jumps told
 abbrev pub with_jumps : List Jump → Walk → Walk
 with_jumps jumps walk = record { place = walk.place; alive = walk.alive; fault = walk.fault; jumps = jumps }
 

@@ -1,6 +1,6 @@
 //! Whether the statements of a body can be reached, and whether it ends as it has to.
 
-ghost use Rattle.std.specs.Prelude.{◌≡◌, not, IfOk, IfErr, OnOk};
+ghost use Rattle.std.specs.Prelude.{◌≡◌, IfOk, IfErr, OnOk};
 ghost use Rattle.dj_syntax.specs.Trees.{view_body, view_stms};
 ghost use Rattle.dj_places.specs.Rules.{Holds};
 ghost use Rattle.dj_places.specs.Surroundings.{surroundings_of};

@@ -1,7 +1,7 @@
 //! The walk over the statements of a body.
 
-ghost use Rattle.std.specs.Prelude.{◌≡◌, None, IfOk, OnOk};
-ghost use Rattle.dj_syntax.specs.Trees.{view_catches, view_exp, view_groups, view_stm, view_stms};
+ghost use Rattle.std.specs.Prelude.{◌≡◌, None, IfOk};
+ghost use Rattle.dj_syntax.specs.Trees.{view_catches, view_groups, view_stm, view_stms};
 ghost use Rattle.dj_meaning.specs.Statements.{has_label, is_labelled};
 ghost use Rattle.dj_reach.specs.Walks as spec;
 ghost use Rattle.dj_reach.specs.Walks.{view_site};

@@ -118,9 +118,11 @@ unverified_tail broken pc = codes " unverified " ++ rule_text broken ++ codes " 
 abbrev pub plain_tail : List ℕ → List ℕ
 plain_tail cause = codes " refused " ++ cause ++ 10 ∷ []
 
+-- the end of the line on what is refused, with the number that the cause is about
 abbrev pub numbered_tail : List ℕ → ℕ → List ℕ
 numbered_tail cause number = codes " refused " ++ cause ++ codes " " ++ decimal number ++ 10 ∷ []
 
+-- the end of the line on what is refused, with the name that the cause is about
 abbrev pub named_tail : List ℕ → List ℕ → List ℕ
 named_tail cause name = codes " refused " ++ cause ++ codes " " ++ show_units name ++ 10 ∷ []
 

@@ -1,6 +1,6 @@
 //! The classes and interfaces that stand above others, each once.
 
-ghost use Rattle.std.specs.Prelude.{◌≡◌, ◌↔◌, List, Some, Contains, OnOk, IfOk};
+ghost use Rattle.std.specs.Prelude.{◌≡◌, ◌↔◌, Some, Contains, OnOk, IfOk};
 ghost use Rattle.dj_names.specs.Headers.{Name, HasParent};
 ghost use Rattle.dj_sayable.specs.Above.{IsAtOrAbove};
 ghost use Rattle.dj_sayable.specs.Gathering.{HasJust, Gains, Continues};

@@ -1,6 +1,6 @@
 //! The parts of a class's name.
 
-ghost use Rattle.std.specs.Prelude.{◌≡◌, ◌↔◌, ◌==◌, ◌++◌, ◌≤◌, length, position, take, Contains, IsTrue};
+ghost use Rattle.std.specs.Prelude.{◌≡◌, ◌↔◌, ◌==◌, ◌++◌, ◌≤◌, length, position, take, IsTrue};
 ghost use Rattle.dj_kinds.specs.Access.{package_of};
 ghost use Rattle.dj_sayable.specs.Saying.{HasPackage, first_segment};
 

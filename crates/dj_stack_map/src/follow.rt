@@ -1,7 +1,7 @@
 //! One frame behind others (JVMS 4.7.4).
 
-ghost use Rattle.std.specs.Prelude.{◌≡◌, ◌≤◌, ◌+◌, ◌^◌, ◌++◌, ◌∷◌, [], List, length, IsSome, IfOk, MatchOption};
-ghost use Rattle.dj_instructions.specs.Instructions.{view_instructions, instruction_at, IsRising};
+ghost use Rattle.std.specs.Prelude.{◌≡◌, ◌≤◌, ◌+◌, ◌^◌, ◌++◌, ◌∷◌, [], length, IfOk, MatchOption};
+ghost use Rattle.dj_instructions.specs.Instructions.{view_instructions, IsRising};
 ghost use Rattle.dj_frames.specs.Frames.{view_tags};
 ghost use Rattle.dj_stack_map.specs.StackMap.{form_of, changed, chopped};
 ghost use Rattle.dj_stack_map.specs.Reading.{CanFollow, IsBehind};

@@ -7,7 +7,7 @@ ghost use Rattle.dj_class.specs.Views.{view_method};
 ghost use Rattle.dj_instructions.specs.declared.kinds.BadKind.TheVariants as kind;
 ghost use Rattle.dj_instructions.specs.Instructions.{view_instructions, IsRising};
 ghost use Rattle.dj_frames.specs.Frames as spec;
-ghost use Rattle.dj_frames.specs.Frames.{Tag, view_frames, entry_values};
+ghost use Rattle.dj_frames.specs.Frames.{view_frames, entry_values};
 ghost use Rattle.dj_stack_map.specs.StackMap.{AreFrames, BreaksFrames, ReadsFrames};
 
 use crate::table::{fault_behind, read_table};

@@ -1,6 +1,6 @@
 //! The StackMapTable of a method (JVMS 4.7.4).
 
-ghost use Rattle.std.specs.Prelude.{◌≡◌, ◌≤◌, ◌-◌, ◌==◌, ◌^◌, ◌++◌, ◌∷◌, [], List, length, IfOk};
+ghost use Rattle.std.specs.Prelude.{◌≡◌, ◌≤◌, ◌-◌, ◌==◌, ◌^◌, ◌++◌, ◌∷◌, [], List, length};
 ghost use Rattle.dj_layout.specs.declared.fault.Stop.TheVariants as stop;
 ghost use Rattle.dj_layout.specs.Layout.{Reads, ReadsAs};
 ghost use Rattle.dj_layout.specs.Passes.{asked, sequence};

@@ -1,6 +1,6 @@
 //! Verification types as a StackMapTable has them (JVMS 4.7.4).
 
-ghost use Rattle.std.specs.Prelude.{◌≡◌, map, nat_le, option_map, IfOk};
+ghost use Rattle.std.specs.Prelude.{◌≡◌, nat_le, option_map, IfOk};
 ghost use Rattle.std.specs.List.{AllZip};
 ghost use Rattle.dj_layout.specs.Layout.{Reads, ReadsAs};
 ghost use Rattle.dj_layout.specs.Parts.{exactly, times, tested, choice};

@@ -1,6 +1,6 @@
 //! Straight methods: code that is one expression in postfix form and `ireturn`, rebuilt as that expression.
 
-ghost use Rattle.std.specs.Prelude.{◌≡◌, ◌∷◌, [], ◌++◌, ◌<◌, ◌^◌, ◌↔◌, ℕ, List, reverse, length, Some, IfOk, IsTrue};
+ghost use Rattle.std.specs.Prelude.{◌≡◌, ◌∷◌, [], ◌++◌, ◌<◌, ◌^◌, ◌↔◌, List, reverse, length, Some, IfOk, IsTrue};
 ghost use Rattle.dj_syntax.specs.WellFormed.{IsWellFormedExp};
 ghost use Rattle.dj_instructions.specs.Instructions.{Instructions, view_instruction, view_instructions};
 ghost use Rattle.dj_straight.specs.Rebuilding.{IsNode, IsNodeOf, AreNodes, pushed, joined, calculated, advanced, WentOn, IsClosed, Builds, IsBuiltOf, IsReturn, viewed};

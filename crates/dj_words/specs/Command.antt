@@ -26,6 +26,7 @@ raw_rule = record (new_rule (codes "raw")) { long = Some (codes "raw"); action =
 abbrev pub bare_command : App
 bare_command = on_top (λ shape. record shape { disable_help_flag = true; disable_version_flag = true }) (new_app (codes "decompile"))
 
+-- the whole command, with its rule on each use
 abbrev pub command : App
 command = with_rule (with_rule (with_rule (with_rule bare_command class_rule) world_rule) make_rule) raw_rule
 

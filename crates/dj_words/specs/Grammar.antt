@@ -36,11 +36,13 @@ is_world (World value) = true
 is_world (Make value) = false
 is_world Raw = false
 
+-- the choice is to make class files
 abbrev pub is_make : Choice → Bool
 is_make (World value) = false
 is_make (Make value) = true
 is_make Raw = false
 
+-- the choice is to read raw words
 abbrev pub is_raw : Choice → Bool
 is_raw (World value) = false
 is_raw (Make value) = false

@@ -3,7 +3,6 @@
 ghost use Rattle.std.specs.Prelude.{◌≡◌, ◌↔◌, ◌⊎◌, ◌++◌, List, [], ◌∷◌, Some, None, IsTrue, IsSomeAnd, Any, Contains, MatchOption, IsBitSet};
 ghost use Rattle.dj_names.specs.declared.header.Header.{Header};
 ghost use Rattle.dj_names.specs.Headers.{names, IsInterface, Implements};
-ghost use Rattle.dj_headers.specs.Table.{IsParent, IsAbove};
 ghost use Rattle.dj_world.specs.Clashes.{HasCircle, HasFinalSuper, HasWrongKind, IsFinal, IsClass, IsLawful, IsLeastClash, MayBeAdded};
 ghost use Rattle.dj_world.specs.Wanting.{WantsAsSuperclass, IsWantedOtherwise, KnowsAll};
 

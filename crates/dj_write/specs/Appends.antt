@@ -9,9 +9,11 @@ use Rattle.dj_pool.specs.declared.fault.BrokenKind.TheVariants as kind
 abbrev pub u1 : Layout BrokenKind ℕ
 u1 = number 1 kind.Short
 
+-- four bytes
 abbrev pub u4 : Layout BrokenKind ℕ
 u4 = number 4 kind.Short
 
+-- eight bytes
 abbrev pub u8 : Layout BrokenKind ℕ
 u8 = number 8 kind.Short
 

@@ -13,6 +13,7 @@ use Rattle.dj_write.specs.declared.file.RawFile.{RawFile}
 abbrev pub view_member : RawMember → plain.RawMember
 view_member member = record { flags = member.flags; name = member.name; descriptor = member.descriptor; attributes = member.attributes }
 
+-- members, as the layout of a class file sees them
 abbrev pub view_members : List RawMember → List plain.RawMember
 view_members members = map view_member members
 

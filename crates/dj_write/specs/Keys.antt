@@ -4,6 +4,7 @@ use Rattle.std.proofs.lemmas.Map.Lookups.{CmpEqualImpliesEq, exact_bytes, exact_
 use Rattle.dj_write.specs.declared.constants.ConstantKey.TheVariants as key
 use Rattle.dj_write.specs.Found.{key_cmp}
 
+-- two keys that compare as equal are one
 pub exact_keys : CmpEqualImpliesEq key_cmp
 exact_keys (key.Int x) (key.Int y) is = ap key.Int (exact_signed x y is)
 exact_keys (key.Int x) (key.Long y) is = absurd cc

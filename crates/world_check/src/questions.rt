@@ -13,9 +13,6 @@ use dj_types::resolve_call;
 use dj_world::World;
 use std::alloc::Global;
 
-/// How many classes there are at most, and how many fields and methods each has.
-const MOST: usize = 65_535;
-
 fn units_of(alloc: Global, text: &str) -> Result<Units> {
     Ok(read_units(alloc, text.as_bytes())?)
 }

@@ -5,7 +5,7 @@ ghost use Rattle.dj_names.specs.Identifiers.{IsIdentifier};
 ghost use Rattle.dj_names.specs.Sayable.{IsSayable};
 ghost use Rattle.dj_names.specs.Types.{view_type};
 ghost use Rattle.dj_syntax.specs.Items.{Space, render};
-ghost use Rattle.dj_syntax.specs.UnitText.{int_items, long_items, operator_text, pairs_items, parenthesised, sign, super_items, truth_text, type_items, variable_name, word};
+ghost use Rattle.dj_syntax.specs.UnitText.{int_items, long_items, operator_text, pairs_items, parenthesised, sign, super_items, truth_text, type_items, variable_name};
 ghost use Rattle.dj_syntax.specs.WellFormed.{IsNamed, IsQualified};
 ghost use Rattle.dj_print.specs.Spelled.{comma_text, spellings};
 

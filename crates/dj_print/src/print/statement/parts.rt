@@ -4,7 +4,7 @@ ghost use Rattle.std.specs.Prelude.{◌≡◌, ◌∷◌, ◌++◌, [], codes};
 ghost use Rattle.std.specs.List.{flat_map};
 ghost use Rattle.dj_syntax.specs.Items.{Space, render};
 ghost use Rattle.dj_syntax.specs.Trees.{view_exp, view_stms, view_unit};
-ghost use Rattle.dj_syntax.specs.UnitText.{case_items, deeper, exp_items, is_empty, label_name, parenthesised, rethrow_items, sign, variable_name, word};
+ghost use Rattle.dj_syntax.specs.UnitText.{case_items, deeper, exp_items, is_empty, label_name, parenthesised, rethrow_items, variable_name};
 ghost use Rattle.dj_syntax.specs.WellFormed.{IsQualified, IsWellFormedExp};
 ghost use Rattle.dj_print.specs.Spelled.{IsNamedUnit, spellings};
 

@@ -5,8 +5,8 @@ ghost use Rattle.dj_names.specs.Identifiers.{IsIdentifier};
 ghost use Rattle.dj_names.specs.Sayable.{IsSayable};
 ghost use Rattle.dj_names.specs.Types.{view_type};
 ghost use Rattle.dj_syntax.specs.Items.{render};
-ghost use Rattle.dj_syntax.specs.Trees.{Construct, Declare, Element, Field, Return, Run, Set, SetElement, SetField, SetStatic, Static, Throw, view_exp, view_exps};
-ghost use Rattle.dj_syntax.specs.UnitText.{answer_items, exp_items, stm_items, stored_items, value_items};
+ghost use Rattle.dj_syntax.specs.Trees.{Construct, Declare, Return, Run, Set, SetElement, SetField, SetStatic, Throw, view_exp, view_exps};
+ghost use Rattle.dj_syntax.specs.UnitText.{answer_items, stm_items, stored_items, value_items};
 ghost use Rattle.dj_syntax.specs.WellFormed.{AreWellFormedExps, IsNamed, IsWellFormedExp};
 ghost use Rattle.dj_print.specs.Spelled.{spellings};
 
