@@ -17,7 +17,7 @@ use Rattle.dj_places.specs.declared.kind.TypeKind.TheVariants as kinds
 use Rattle.dj_faults.specs.declared.fault.Fault.{Fault}
 use Rattle.dj_faults.specs.Faults.{first_fault}
 use Rattle.dj_typing.specs.Sites.{Site}
-use Rattle.dj_typing.specs.Expressions.{exp_types}
+use Rattle.dj_typing.specs.Expressions.{exp_types, effect_types}
 
 -- ---- classes: `C`, the final class `F`, the interface `I`, and those of java/lang that they stand on
 
@@ -35,14 +35,15 @@ headers =
 abbrev none : Members
 none = record { fields = []; methods = [] }
 
--- `static int m(int)` and the constructor of nothing, of C
+-- `static int m(int)`, the constructor of nothing and `static void n()`, of C
 abbrev members : List Members
 members =
     record {
       fields = [];
       methods =
           record { flags = 0x0008; name = codes "m"; descriptor = types.Method (types.Int ∷ []) (Some types.Int) }
-          ∷ record { flags = 0x0001; name = codes "<init>"; descriptor = types.Method [] None } ∷ [];
+          ∷ record { flags = 0x0001; name = codes "<init>"; descriptor = types.Method [] None }
+          ∷ record { flags = 0x0008; name = codes "n"; descriptor = types.Method [] None } ∷ [];
     }
     ∷ none ∷ none ∷ none ∷ none ∷ []
 
@@ -168,3 +169,15 @@ null_test = refl
 
 number_test : fault (InstanceOf (p 0) (Class (codes "C"))) ≡ Some (record { place = 0; kind = kinds.WrongType })
 number_test = refl
+
+-- -C.n(), where n gives nothing; the sign keeps silent
+of_nothing : fault (Negative (StaticCall (codes "C") (codes "n") NoExps)) ≡ Some (record { place = 1; kind = kinds.WrongType })
+of_nothing = refl
+
+-- C.n(); alone
+nothing_alone : first_fault (effect_types site scope 0 (StaticCall (codes "C") (codes "n") NoExps)) ≡ None
+nothing_alone = refl
+
+-- C.m(C.n())
+nothing_given : fault (StaticCall (codes "C") (codes "m") (AndExp (StaticCall (codes "C") (codes "n") NoExps) NoExps)) ≡ Some (record { place = 1; kind = kinds.WrongType })
+nothing_given = refl

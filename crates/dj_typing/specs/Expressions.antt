@@ -15,6 +15,7 @@ use Rattle.dj_kinds.specs.Search.{header_of, superclass_in, interfaces_of}
 use Rattle.dj_meaning.specs.Calls.{MethodIn, is_assignable, chosen}
 use Rattle.dj_meaning.specs.Fields.{selected, named_field}
 use Rattle.dj_meaning.specs.Members.{has_flag}
+use Rattle.dj_meaning.specs.Targets.{Target, result}
 use Rattle.dj_meaning.specs.StaticTypes.{Scope, plain, type_of, types_of, object_target, class_target, super_target, new_target}
 use Rattle.dj_places.specs.Rules.{Rules, NoRule, Rule, ◌and◌}
 use Rattle.dj_places.specs.declared.kind.TypeKind.TheVariants as kinds
@@ -54,20 +55,21 @@ abbrev pub selects : Site → Name → StaticType → Bool
 selects site name types.Null = false
 selects site name (Of type) = is_some (selected site.headers site.members site.class name type)
 
--- some method is meant by a call of an object's method, where the object and the arguments have types
-abbrev pub calls : Site → Scope → Exp → Name → Exps → Bool
-calls site scope object name arguments =
-    if_typed (type_of (context_of site) scope object) (λ type.
-    if_listed (types_of (context_of site) scope arguments) (is_some (object_target (context_of site) name (plain (Some type)) (types_of (context_of site) scope arguments))))
-  where
-    if_listed : Option (List StaticType) → Bool → Bool
-    if_listed None found = true
-    if_listed (Some types) found = found
+-- a call gives a value, or means no method; one of a method without a result gives nothing, and stands alone, as a statement (14.8, 15.1)
+abbrev pub gives_value : Option Target → Bool
+gives_value None = true
+gives_value (Some one) = is_some (result one)
 
 -- some method is meant, where the arguments have types
 abbrev pub is_meant : {A : Type 0} → Option (List StaticType) → Option A → Bool
 is_meant None found = true
 is_meant (Some types) found = is_some found
+
+-- some method is meant by a call of an object's method, where the object and the arguments have types
+abbrev pub calls : Site → Scope → Exp → Name → Exps → Bool
+calls site scope object name arguments =
+    if_typed (type_of (context_of site) scope object) (λ type.
+    is_meant (types_of (context_of site) scope arguments) (object_target (context_of site) name (plain (Some type)) (types_of (context_of site) scope arguments)))
 
 -- the class above, or the interface that is named before `super`
 abbrev pub above_of : Site → Option Name → Option Name
@@ -96,8 +98,41 @@ is_abstract headers class = list_any (λ (header : Header). is_name header.name 
 abbrev pub whole : Site → Scope → ℕ → Exp → Rules
 whole site scope place exp = Rule place kinds.Name (if_typed (type_of (context_of site) scope exp) (is_whole_static site.headers))
 
+-- the method of an object that a call means
+abbrev pub meant_of_object : Site → Scope → Exp → Name → Exps → Option Target
+meant_of_object site scope object name arguments =
+    object_target (context_of site) name (plain (type_of (context_of site) scope object)) (types_of (context_of site) scope arguments)
+
+-- the static method that a call means
+abbrev pub meant_of_class : Site → Scope → Name → Name → Exps → Option Target
+meant_of_class site scope class name arguments = class_target (context_of site) class name (types_of (context_of site) scope arguments)
+
+-- the method behind `super` that a call means
+abbrev pub meant_above : Site → Scope → Option Name → Name → Exps → Option Target
+meant_above site scope above name arguments = super_target (context_of site) above name (types_of (context_of site) scope arguments)
+
+-- the rules on a call itself, whether it gives a value or not
+abbrev pub call_itself : Site → Scope → ℕ → Exp → Name → Exps → Rules
+call_itself site scope place object name arguments =
+    Rule place kinds.Name (site.can_name name) and Rule place kinds.Call (calls site scope object name arguments) and whole site scope place (Call object name arguments)
+
+-- so on a call of a static method
+abbrev pub static_call_itself : Site → Scope → ℕ → Name → Name → Exps → Rules
+static_call_itself site scope place class name arguments =
+    Rule place kinds.Name (may_name site class && site.can_name name)
+    and Rule place kinds.Call (is_meant (types_of (context_of site) scope arguments) (meant_of_class site scope class name arguments))
+    and whole site scope place (StaticCall class name arguments)
+
+-- and on one behind `super`
+abbrev pub super_call_itself : Site → Scope → ℕ → Option Name → Name → Exps → Rules
+super_call_itself site scope place above name arguments =
+    let given = types_of (context_of site) scope arguments in
+    Rule place kinds.Name (site.has_this && has_super site above && site.can_name name)
+    and Rule place kinds.Call (is_meant given (meant_above site scope above name arguments) && not (means_abstract site above name given))
+    and whole site scope place (SuperCall above name arguments)
+
 abbrev mutual
-  -- the rules on an expression at a place
+  -- the rules on an expression at a place, where its value is wanted
   pub exp_types : Site → Scope → ℕ → Exp → Rules
   exp_types site scope place (trees.Int number) = NoRule
   exp_types site scope place (trees.Long number) = NoRule
@@ -120,18 +155,14 @@ abbrev mutual
       and Rule place kinds.WrongType (is_index (type_of (context_of site) scope index))
       and whole site scope place (Element array index) and exp_types site scope (place + 1) array and exp_types site scope (place + 1 + weight_of_exp array) index
   exp_types site scope place (Call object name arguments) =
-      Rule place kinds.Name (site.can_name name) and Rule place kinds.Call (calls site scope object name arguments)
-      and whole site scope place (Call object name arguments)
+      Rule place kinds.WrongType (gives_value (meant_of_object site scope object name arguments)) and call_itself site scope place object name arguments
       and exp_types site scope (place + 1) object and exps_types site scope (place + 1 + weight_of_exp object) arguments
   exp_types site scope place (StaticCall class name arguments) =
-      let given = types_of (context_of site) scope arguments in
-      Rule place kinds.Name (may_name site class && site.can_name name) and Rule place kinds.Call (is_meant given (class_target (context_of site) class name given))
-      and whole site scope place (StaticCall class name arguments) and exps_types site scope (place + 1) arguments
+      Rule place kinds.WrongType (gives_value (meant_of_class site scope class name arguments)) and static_call_itself site scope place class name arguments
+      and exps_types site scope (place + 1) arguments
   exp_types site scope place (SuperCall above name arguments) =
-      let given = types_of (context_of site) scope arguments in
-      Rule place kinds.Name (site.has_this && has_super site above && site.can_name name)
-      and Rule place kinds.Call (is_meant given (super_target (context_of site) above name given) && not (means_abstract site above name given))
-      and whole site scope place (SuperCall above name arguments) and exps_types site scope (place + 1) arguments
+      Rule place kinds.WrongType (gives_value (meant_above site scope above name arguments)) and super_call_itself site scope place above name arguments
+      and exps_types site scope (place + 1) arguments
   exp_types site scope place (New class arguments) =
       let given = types_of (context_of site) scope arguments in
       Rule place kinds.Name (may_name site class)
@@ -169,3 +200,33 @@ abbrev mutual
   pub exps_types : Site → Scope → ℕ → Exps → Rules
   exps_types site scope place NoExps = NoRule
   exps_types site scope place (AndExp first rest) = exp_types site scope place first and exps_types site scope (place + weight_of_exp first) rest
+
+-- the rules on what may stand alone, as a statement: a call, whether it gives a value or not, or a new object (14.8)
+abbrev pub effect_types : Site → Scope → ℕ → Exp → Rules
+effect_types site scope place (Call object name arguments) =
+    call_itself site scope place object name arguments
+    and exp_types site scope (place + 1) object and exps_types site scope (place + 1 + weight_of_exp object) arguments
+effect_types site scope place (StaticCall class name arguments) =
+    static_call_itself site scope place class name arguments and exps_types site scope (place + 1) arguments
+effect_types site scope place (SuperCall above name arguments) =
+    super_call_itself site scope place above name arguments and exps_types site scope (place + 1) arguments
+effect_types site scope place (trees.Int number) = exp_types site scope place (trees.Int number)
+effect_types site scope place (trees.Long number) = exp_types site scope place (trees.Long number)
+effect_types site scope place (Text units) = exp_types site scope place (Text units)
+effect_types site scope place (Truth known) = exp_types site scope place (Truth known)
+effect_types site scope place Null = exp_types site scope place Null
+effect_types site scope place This = exp_types site scope place This
+effect_types site scope place (Variable variable) = exp_types site scope place (Variable variable)
+effect_types site scope place (ClassOf kind) = exp_types site scope place (ClassOf kind)
+effect_types site scope place (Field object name) = exp_types site scope place (Field object name)
+effect_types site scope place (Static class name) = exp_types site scope place (Static class name)
+effect_types site scope place (Element array index) = exp_types site scope place (Element array index)
+effect_types site scope place (New class arguments) = exp_types site scope place (New class arguments)
+effect_types site scope place (NewArray kind sizes more) = exp_types site scope place (NewArray kind sizes more)
+effect_types site scope place (Cast kind operand) = exp_types site scope place (Cast kind operand)
+effect_types site scope place (InstanceOf operand kind) = exp_types site scope place (InstanceOf operand kind)
+effect_types site scope place (Negative operand) = exp_types site scope place (Negative operand)
+effect_types site scope place (Not operand) = exp_types site scope place (Not operand)
+effect_types site scope place (Binary operator left right) = exp_types site scope place (Binary operator left right)
+effect_types site scope place (Choice test first second) = exp_types site scope place (Choice test first second)
+effect_types site scope place (Assign variable new) = exp_types site scope place (Assign variable new)

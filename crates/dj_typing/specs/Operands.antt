@@ -16,6 +16,7 @@ abbrev pub is_of : (JType → Bool) → StaticType → Bool
 is_of test types.Null = false
 is_of test (Of type) = test type
 
+-- boolean itself
 abbrev pub is_boolean : JType → Bool
 is_boolean type = is_type type Boolean
 
@@ -42,6 +43,7 @@ pub data Operands : Type 0 where
   Bits : Operands
   Truths : Operands
 
+-- how this operator does
 abbrev pub operands_of : Op → Operands
 operands_of op.Mul = Numbers
 operands_of op.Div = Numbers
