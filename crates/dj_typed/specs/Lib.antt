@@ -1,0 +1,5 @@
+-- The rules on statements and bodies, in reading order.
+pub mod Stores
+pub mod Switches
+pub mod Statements
+pub mod Bodies
