@@ -1,0 +1,10 @@
+mod OrderLemmas
+mod WordLemmas
+mod CastingLemmas
+mod FlagLemmas
+mod WholeLemmas
+mod ListLemmas
+mod PartLemmas
+mod PassLemmas
+mod SuperLemmas
+mod CheckedLaw

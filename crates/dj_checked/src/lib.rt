@@ -1,0 +1,28 @@
+//! Whether Java accepts an expression, and else the first rule that it breaks (JLS 15).
+//! It stands on `dj_typing` for the rules, on `dj_static` for types and for what names and calls mean, and on `dj_faults` for faults.
+//! The layers above use `check_expression`; `pass_exp` and `pass_effect` with `Walk` for the expressions of statements, and the tests of names and types for the statements.
+#![tactic(auto)]
+
+mod calls;
+mod casting;
+mod check;
+mod effects;
+mod expressions;
+mod given;
+mod leaves;
+mod operands;
+mod parts;
+mod site;
+mod supers;
+mod walk;
+mod whole;
+
+pub use calls::is_meant;
+pub use check::check_expression;
+pub use effects::pass_effect;
+pub use expressions::{pass_exp, pass_exps};
+pub use given::{construct_target, copied, is_typed, plain, selected_type, static_type};
+pub use operands::{Test, goes, if_of};
+pub use site::{Site, can_name, may_name, may_name_member, may_name_type};
+pub use walk::Walk;
+pub use whole::is_whole_static;
