@@ -35,6 +35,8 @@ class BodyMaker:
     """Makes one body. `scope` has the variables that may be named and their types, `hidden` others whose
     names are in use, `frozen` those that aren't assigned."""
 
+    caught, thrown = CAUGHT, MADE
+
     def __init__(self, rng, own, callees, this):
         self.rng, self.own, self.this, self.callees = rng, own, this, callees
         self.type, self.array = f"L{own};", f"[L{own};"
@@ -338,7 +340,7 @@ class BodyMaker:
             name = self.rng.choice(caught)
             return [("Throw", ("Var", name)) if self.chance(0.6) else ("Rethrow", name, self.own, "rethrow$0")], False
         if self.chance(0.5):
-            thrown = ("New", self.rng.choice(MADE), []) if self.chance(0.9) else ("Cast", "Ljava/lang/Error;", ("Null",))
+            thrown = ("New", self.rng.choice(self.thrown), []) if self.chance(0.9) else ("Cast", "Ljava/lang/Error;", ("Null",))
             return [("Throw", thrown)], False
         return [self.returned()], False
 
@@ -440,8 +442,8 @@ class BodyMaker:
 
     def try_stm(self, depth):
         body, completes = self.block(depth)
-        names = sorted(self.rng.sample(CAUGHT, self.rng.choice([1, 1, 2, 3])), key=CAUGHT.index)
-        clauses = []
+        names = sorted(self.rng.sample(self.caught, self.rng.choice([1, 1, 2, 3])), key=self.caught.index)
+        body, clauses = self.throwing(names) + body, []
         for name in names:
             outer, variable = dict(self.scope), self.fresh("e")
             self.scope[variable] = f"L{name};"
@@ -450,6 +452,10 @@ class BodyMaker:
             clauses.append((name, variable, [log(("Var", variable)), *caught] if self.chance(0.5) else caught))
             completes = completes or other
         return [("Try", body, clauses)], completes
+
+    def throwing(self, names):
+        """Statements that throw what these clauses can't take else."""
+        return []
 
     def finally_stm(self, depth):
         last, ends = self.block(depth)
