@@ -5,6 +5,6 @@ mod FlagLemmas
 mod WholeLemmas
 mod ListLemmas
 mod PartLemmas
-mod PassLemmas
+pub mod PassLemmas
 mod SuperLemmas
-mod CheckedLaw
+pub mod CheckedLaw

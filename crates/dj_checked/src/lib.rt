@@ -21,7 +21,9 @@ pub use calls::is_meant;
 pub use check::check_expression;
 pub use effects::pass_effect;
 pub use expressions::{pass_exp, pass_exps};
-pub use given::{construct_target, copied, is_typed, plain, selected_type, static_type};
+pub use given::{
+    construct_target, copied, is_typed, object_type, plain, selected_type, static_type,
+};
 pub use operands::{Test, goes, if_of};
 pub use site::{Site, can_name, may_name, may_name_member, may_name_type};
 pub use walk::Walk;
