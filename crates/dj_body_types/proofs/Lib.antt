@@ -1,0 +1,9 @@
+mod StatementLaw
+mod GroupLemmas
+mod WalkLemmas
+mod SeenLemmas
+mod DistinctLemmas
+mod StoreLemmas
+mod ClauseLemmas
+mod TypedLemmas
+mod BodyLemmas
