@@ -1,5 +1,5 @@
 mod OrderLemmas
-mod WordLemmas
+pub mod WordLemmas
 mod CastingLemmas
 mod FlagLemmas
 mod WholeLemmas

@@ -25,6 +25,7 @@ use Rattle.dj_checked.specs.declared.walk.Walk.{Walk}
 
 -- ---- steps
 
+-- past the beginning of an expression: its parts come next
 abbrev pub step : Walk → Walk
 step walk = record { place = told (walk.place + 1); fault = walk.fault }
 
@@ -38,9 +39,11 @@ note_whole site place found walk = note place kinds.Name (if_typed found (is_who
 
 -- ---- the types of expressions, by those of their parts
 
+-- of a text (3.10.5)
 abbrev pub text_type : Option StaticType
 text_type = Some (Of (Class (codes "java/lang/String")))
 
+-- of a class literal (15.8.2)
 abbrev pub class_type : Option StaticType
 class_type = Some (Of (Class (codes "java/lang/Class")))
 
@@ -48,6 +51,7 @@ class_type = Some (Of (Class (codes "java/lang/Class")))
 abbrev pub field_type : Site → Name → Option StaticType → Option StaticType
 field_type site name object = typed (option_map selection_type (option_and_then (selected site.headers site.members site.class name) (plain object)))
 
+-- of a static field
 abbrev pub static_type : Site → Name → Name → Option StaticType
 static_type site class name = typed (option_map (λ (field : KnownField). field.type) (named_field site.headers site.members site.class class name))
 
@@ -59,9 +63,11 @@ element_type array = typed (option_and_then element_of (plain array))
 abbrev pub call_type : Site → Name → Option StaticType → Option (List StaticType) → Option StaticType
 call_type site name object given = typed (option_and_then result (object_target (context_of site) name (plain object) given))
 
+-- of a call of a static method
 abbrev pub static_call_type : Site → Name → Name → Option (List StaticType) → Option StaticType
 static_call_type site class name given = typed (option_and_then result (class_target (context_of site) class name given))
 
+-- of a call of a method above the class
 abbrev pub super_call_type : Site → Option Name → Name → Option (List StaticType) → Option StaticType
 super_call_type site above name given = typed (option_and_then result (super_target (context_of site) above name given))
 
@@ -71,25 +77,31 @@ binary_type operator left right = typed (result_type (typing_of operator) (plain
 
 -- ---- the rules on an expression, by the types of its parts
 
+-- on `this`: it may stand here, and its class is whole
 abbrev pub note_this : Site → ℕ → Walk → Walk
 note_this site place walk = note_whole site place (Some (Of (Class site.class))) (note place kinds.Name site.has_this walk)
 
+-- on a variable: it is in scope, and the class of its type is whole
 abbrev pub note_variable : Site → ℕ → Option JType → Walk → Walk
 note_variable site place declared walk = note_whole site place (typed declared) (note place kinds.Name (is_some declared) walk)
 
+-- on a class literal: its class can be named
 abbrev pub note_class : Site → ℕ → JType → Walk → Walk
 note_class site place kind walk = note_whole site place class_type (note place kinds.Name (may_name_type site kind) walk)
 
+-- on a field of an object: the name can be written, and selects something
 abbrev pub note_field : Site → ℕ → Name → Option StaticType → Walk → Walk
 note_field site place name object walk =
     note_whole site place (field_type site name object)
     (note place kinds.Access (if_typed object (selects site name)) (note place kinds.Name (site.can_name name) walk))
 
+-- on a static field: its class and its name can be written, and name one
 abbrev pub note_static : Site → ℕ → Name → Name → Walk → Walk
 note_static site place class name walk =
     note_whole site place (static_type site class name)
     (note place kinds.Access (is_some (named_field site.headers site.members site.class class name)) (note place kinds.Name (may_name site class && site.can_name name) walk))
 
+-- on an element: that of an array, at an int
 abbrev pub note_element : Site → ℕ → Option StaticType → Option StaticType → Walk → Walk
 note_element site place array index walk =
     note_whole site place (element_type array) (note place kinds.WrongType (is_index index) (note place kinds.WrongType (if_typed array (is_of is_array)) walk))
@@ -107,57 +119,71 @@ abbrev pub note_call_itself : Site → ℕ → Name → Option StaticType → Op
 note_call_itself site place name object given walk =
     note_whole site place (call_type site name object given) (note place kinds.Call (is_called site name object given) (note place kinds.Name (site.can_name name) walk))
 
+-- on a call whose value is used
 abbrev pub note_call : Site → ℕ → Name → Option StaticType → Option (List StaticType) → Walk → Walk
 note_call site place name object given walk =
     note_value place (object_target (context_of site) name (plain object) given) (note_call_itself site place name object given walk)
 
+-- the same of a static method: with its class named
 abbrev pub note_static_call_itself : Site → ℕ → Name → Name → Option (List StaticType) → Walk → Walk
 note_static_call_itself site place class name given walk =
     note_whole site place (static_call_type site class name given)
     (note place kinds.Call (is_meant given (class_target (context_of site) class name given)) (note place kinds.Name (may_name site class && site.can_name name) walk))
 
+-- on such a call whose value is used
 abbrev pub note_static_call : Site → ℕ → Name → Name → Option (List StaticType) → Walk → Walk
 note_static_call site place class name given walk =
     note_value place (class_target (context_of site) class name given) (note_static_call_itself site place class name given walk)
 
+-- the same of a method above the class: it may stand here, and means a method that has code
 abbrev pub note_super_call_itself : Site → ℕ → Option Name → Name → Option (List StaticType) → Walk → Walk
 note_super_call_itself site place above name given walk =
     note_whole site place (super_call_type site above name given)
     (note place kinds.Call (is_meant given (super_target (context_of site) above name given) && not (means_abstract site above name given))
     (note place kinds.Name (site.has_this && has_super site above && site.can_name name) walk))
 
+-- on such a call whose value is used
 abbrev pub note_super_call : Site → ℕ → Option Name → Name → Option (List StaticType) → Walk → Walk
 note_super_call site place above name given walk =
     note_value place (super_target (context_of site) above name given) (note_super_call_itself site place above name given walk)
 
+-- on a new object: of a class that is named and not abstract, by a constructor that is meant
 abbrev pub note_new : Site → ℕ → Name → Option (List StaticType) → Walk → Walk
 note_new site place class given walk =
     note place kinds.Call (not (is_abstract site.headers class) && is_meant given (new_target (context_of site) class given)) (note place kinds.Name (may_name site class) walk)
 
+-- on a new array: its elements are of a type that can be named, some size is given, and each is an int
 abbrev pub note_new_array : Site → ℕ → JType → Bool → Bool → Walk → Walk
 note_new_array site place kind sized indexed walk =
     note place kinds.WrongType indexed (note place kinds.Name (may_name_type site kind && not (is_array kind) && sized) walk)
 
+-- on a cast: to a type that can be named, from one that may become it
 abbrev pub note_cast : Site → ℕ → JType → Option StaticType → Walk → Walk
 note_cast site place kind operand walk =
     note place kinds.WrongType (if_typed operand (λ type. may_cast site.headers type kind)) (note place kinds.Name (may_name_type site kind) walk)
 
+-- on `instanceof`: of a reference type that can be named, and that the operand may be of
 abbrev pub note_instance_of : Site → ℕ → JType → Option StaticType → Walk → Walk
 note_instance_of site place kind operand walk =
     note place kinds.WrongType (is_reference kind && if_typed operand (λ type. may_be_of site.headers type kind)) (note place kinds.Name (may_name_type site kind) walk)
 
+-- on a minus: before a number
 abbrev pub note_negative : ℕ → Option StaticType → Walk → Walk
 note_negative place operand walk = note place kinds.WrongType (if_typed operand (is_of is_number)) walk
 
+-- on `!`: before a boolean
 abbrev pub note_not : ℕ → Option StaticType → Walk → Walk
 note_not place operand walk = note place kinds.WrongType (is_condition operand) walk
 
+-- on an operator: it takes operands of these types
 abbrev pub note_binary : Site → ℕ → Op → Option StaticType → Option StaticType → Walk → Walk
 note_binary site place operator left right walk = note place kinds.WrongType (if_both left right (takes site.headers (operands_of operator))) walk
 
+-- on a choice: by a boolean, of two types that agree
 abbrev pub note_choice : ℕ → Option StaticType → Option StaticType → Option StaticType → Walk → Walk
 note_choice place test first second walk = note place kinds.WrongType (if_both first second agree) (note place kinds.WrongType (is_condition test) walk)
 
+-- on an assignment: to a variable in scope, of what goes into it
 abbrev pub note_assign : Site → ℕ → Option JType → Option StaticType → Walk → Walk
 note_assign site place declared new walk =
     note_whole site place (typed declared) (note place kinds.WrongType (goes site.headers new declared) (note place kinds.Name (is_some declared) walk))
@@ -165,6 +191,7 @@ note_assign site place declared new walk =
 -- ---- expressions
 
 abbrev mutual
+  -- past an expression: its parts in order, and then the rules on itself
   pub pass_exp : Site → Scope → Exp → Walk → Walk
   pass_exp site scope (trees.Int number) walk = step walk
   pass_exp site scope (trees.Long number) walk = step walk
@@ -203,6 +230,7 @@ abbrev mutual
   pass_exp site scope (Assign variable new) walk =
       note_assign site walk.place (scope variable) (type_of (context_of site) scope new) (pass_exp site scope new (step walk))
 
+  -- past expressions, one after another
   pub pass_exps : Site → Scope → Exps → Walk → Walk
   pass_exps site scope NoExps walk = walk
   pass_exps site scope (AndExp first rest) walk = pass_exps site scope rest (pass_exp site scope first walk)

@@ -6,10 +6,10 @@ use Rattle.std.proofs.lemmas.Option.{none-some, same_Some}
 use Rattle.dj_places.specs.declared.kind.TypeKind.{TypeKind}
 use Rattle.dj_places.specs.declared.kind.TypeKind.TheVariants as kinds
 use Rattle.dj_places.specs.Places.{told}
-use Rattle.dj_places.specs.Rules.{Rules, NoRule, Rule, ◌and◌, Holds, Breaks}
+use Rattle.dj_places.specs.Rules.{Rules, NoRule, Rule, ◌and◌, Holds, Breaks, IsFirstBroken}
 use Rattle.dj_faults.specs.declared.fault.Fault.{Fault}
 use Rattle.dj_faults.specs.Faults.{rank, is_before, lower, first_fault}
-use Rattle.dj_faults.specs.FirstFault.{IsFirstFault}
+use Rattle.dj_faults.specs.FirstFault.{IsFirstFault, Tells, AreOf}
 
 -- ---- the order of faults, by one number
 
@@ -187,3 +187,30 @@ first_is (Rule at of false) fault is =
     not_itself other kind same alike = so_not_before (at_told other kind) (at_told at of) (rw (same, alike) (omega arith))
 first_is (first and second) fault is =
     found_of_two first second fault (first_fault first) (first_fault second) (none_broken first) (none_broken second) (first_is first) (first_is second) is
+
+-- what is found of two parts is the lower of what is found of each
+pub tells_lower : (first second : Rules) (one two : Option Fault) → Tells first one → Tells second two → Tells (first and second) (lower one two)
+tells_lower first second None None a b = (a, b)
+tells_lower first second None (Some two) a b = only_second first second two a b
+tells_lower first second (Some one) None a b = only_first first second one b a
+tells_lower first second (Some one) (Some two) a b = first_of_two first second one two a b (is_before two one) refl
+
+-- ---- rules of one kind
+
+broken_of : (rules : Rules) (kind : TypeKind) → AreOf kind rules → (at : ℕ) (of : TypeKind) → Breaks at of rules → of ≡ kind
+broken_of NoRule kind are at of broken = absurd broken
+broken_of (Rule place its kept) kind are at of broken = broken.2 ∙ are
+broken_of (first and second) kind are at of broken =
+    elim broken [ inl x ↦ broken_of first kind are.0 at of x | inr x ↦ broken_of second kind are.1 at of x ]
+
+-- the first that is broken, by its place, is the first fault
+pub first_of_kind : (rules : Rules) (kind : TypeKind) (first : ℕ) → AreOf kind rules → IsFirstBroken rules first → IsFirstFault rules (at_told first kind)
+first_of_kind rules kind first are is = record {
+  at = first;
+  tells = refl;
+  broken = subst (λ (of : TypeKind). Breaks first of rules) (broken_of rules kind are first is.kind is.broken) is.broken;
+  least = λ other of broken. no_lower other of (broken_of rules kind are other of broken) (is.least other of broken);
+}
+  where
+    no_lower : (other : ℕ) (of : TypeKind) → of ≡ kind → first ≤ other → is_before (at_told other of) (at_told first kind) ≡ false
+    no_lower other of same from = so_not_before (at_told other of) (at_told first kind) (rw same (omega (arith, from)))

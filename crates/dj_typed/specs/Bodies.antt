@@ -1,8 +1,8 @@
 -- The rules on a whole body (JLS 8.4.5, 8.8.7): those of types, of reachability, of definite assignment and of exceptions; a body is typed that keeps each.
-use Rattle.std.specs.Prelude.{◌↔◌, Bool, true, false, not, ◌||◌, IsTrue, ℕ, List, [], map}
+use Rattle.std.specs.Prelude.{◌↔◌, Bool, true, false, not, ◌||◌, IsTrue, ℕ, List, [], map, Contains}
 use Rattle.dj_names.specs.declared.header.Header.{Header}
 use Rattle.dj_names.specs.declared.members.ClassMembers.{ClassMembers}
-use Rattle.dj_names.specs.Headers.{Name}
+use Rattle.dj_names.specs.Headers.{Name, names}
 use Rattle.dj_names.specs.Identifiers.{IsIdentifier}
 use Rattle.dj_names.specs.MethodNames.{is_constructor}
 use Rattle.dj_names.specs.Types.{result_of}
@@ -12,6 +12,10 @@ use Rattle.dj_sayable.specs.Saying.{CanBeSaid}
 use Rattle.dj_meaning.specs.Members.{view_members}
 use Rattle.dj_places.specs.Rules.{Rules, Rule, ◌and◌, Holds}
 use Rattle.dj_places.specs.declared.kind.TypeKind.TheVariants as kinds
+use Rattle.dj_faults.specs.declared.fault.Fault.{Fault}
+use Rattle.dj_faults.specs.declared.body_fault.BodyFault.{BodyFault}
+use Rattle.dj_faults.specs.declared.body_fault.BodyFault.TheVariants.{TypeFault, Memory}
+use Rattle.dj_faults.specs.FirstFault.{IsFirstFault}
 use Rattle.dj_reach.specs.Bodies.{body_reach}
 use Rattle.dj_assigned.specs.Bodies.{body_reads}
 use Rattle.dj_thrown.specs.Bodies.{scope_in, body_thrown}
@@ -23,10 +27,10 @@ pub record Writing : Type 0 where
   pub can_say : Name → Bool
   pub can_name : List ℕ → Bool
 
--- the tests are right
+-- the tests are right: a name of a class can be written where there is such a class and the text can say its name
 pub record IsRight (headers : List Header) (members : List ClassMembers) (class : Name) (writing : Writing) : Type 0 where
-  pub says : (name : Name) → IsTrue (writing.can_say name) ↔ CanBeSaid headers members class name
-  pub names : (name : List ℕ) → IsTrue (writing.can_name name) ↔ IsIdentifier name
+  pub says : (name : Name) → IsTrue (writing.can_say name) ↔ (Contains (names headers) name × CanBeSaid headers members class name)
+  pub spells : (name : List ℕ) → IsTrue (writing.can_name name) ↔ IsIdentifier name
 
 -- where the expressions of a body stand
 abbrev pub site_in : Writing → List Header → List ClassMembers → Body → Site
@@ -90,6 +94,19 @@ abbrev pub body_rules : Writing → List Header → List ClassMembers → Body �
 body_rules writing headers members body =
     body_types writing headers members body and body_reach headers members body and body_reads headers members body and body_thrown headers members body
 
--- each is kept
-abbrev pub IsTyped : Writing → List Header → List ClassMembers → Body → Type 0
-IsTyped writing headers members body = Holds (body_rules writing headers members body)
+-- a body is typed: by tests that are right, each rule is kept
+pub record IsTyped (headers : List Header) (members : List ClassMembers) (body : Body) : Type 0 where
+  pub writing : Writing
+  pub right : IsRight headers members body.class writing
+  pub holds : Holds (body_rules writing headers members body)
+
+-- a body isn't: by tests that are right, this fault is the first
+pub record IsUntyped (headers : List Header) (members : List ClassMembers) (body : Body) (fault : Fault) : Type 0 where
+  pub writing : Writing
+  pub right : IsRight headers members body.class writing
+  pub first : IsFirstFault (body_rules writing headers members body) fault
+
+-- what is answered of a body that isn't typed; want of memory says nothing
+abbrev pub IsTypeFault : List Header → List ClassMembers → Body → BodyFault → Type 0
+IsTypeFault headers members body (TypeFault place kind) = IsUntyped headers members body (record { place = place; kind = kind })
+IsTypeFault headers members body (Memory error) = Unit {0}

@@ -1,0 +1,3 @@
+mod KindLemmas
+mod PartLemmas
+mod SaidLemmas
