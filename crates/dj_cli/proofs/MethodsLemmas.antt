@@ -19,6 +19,7 @@ use Rattle.dj_class_text.specs.Methods.{bare_method, method_text}
 use Rattle.dj_class_text.proofs.FlagLemmas.{method_flags_kept}
 use Rattle.dj_straight.specs.StraightMethod.{IsStraightMethod, IsBodyOf}
 use Rattle.dj_straight_shows.proofs.StraightShows.{straight_methods_show}
+use Rattle.dj_straight_typed.proofs.StraightTyped.{straight_methods_are_typed}
 use Rattle.dj_verify.specs.declared.rule.Rule.{Rule}
 use Rattle.dj_report.specs.Report.{shown_method, bad_tail, unverified_tail, not_yet_tail, refused_method_tail}
 use Rattle.dj_cli.specs.Output.{Verdict, Prints, Bare, Refused, Bad, Unverified, NotYet, PrintsMethod, IsBareMethod, IsRefusedMethod, IsBadMethod, IsUnverifiedMethod, IsNotYetMethod, IsVerdict, AreVerdicts, body_of, is_printed, method_line, method_lines, printed_among, refused_among}
@@ -106,6 +107,7 @@ module _ (world : WorldOf) (class : ClassOf) where
     verified = printable.verified;
     of_method = of_method;
     shows = straight_methods_show class before method exp body world.headers world.members printable.straight of_method;
+    typed = straight_methods_are_typed class before method exp body world.headers world.members printable.straight of_method;
   }
 
   -- ---- methods judged

@@ -16,6 +16,9 @@ use Rattle.dj_tags.specs.Laxly.{Laxly}
 use Rattle.dj_verify.specs.declared.rule.Rule.{Rule}
 use Rattle.dj_verify.specs.Table.{IsFrameTable, IsFirstViolation}
 use Rattle.dj_bytecode.specs.SameShows.{SameShows}
+use Rattle.dj_sayable.specs.Saying.{CanBeSaid}
+use Rattle.dj_typing.specs.Sites.{is_whole}
+use Rattle.dj_typed.specs.Bodies.{IsTyped}
 use Rattle.dj_straight.specs.StraightMethod.{IsStraightMethod, IsNotYet, IsBodyOf}
 use Rattle.dj_causes.specs.declared.cause.Cause.{Cause}
 use Rattle.dj_causes.specs.declared.cause.ClassCause.{ClassCause}
@@ -54,13 +57,15 @@ pub record IsVerified (world : WorldOf) (code : Code) : Type 0 where
   pub frames : List Frame
   pub table : IsFrameTable (Laxly world.headers) world.headers code frames
 
--- a straight method of a class whose code is verified in the world, and its body, which shows the same as its code there, at every bound, whatever classes may run besides, for all arguments that fit and all answers
+-- a straight method of a class whose code is verified in the world, and its body, which shows the same as its code there, at every bound, whatever classes may run besides, for all arguments that fit and all answers;
+-- and the body is typed, where the world has the class and each above it, and the text of the class can say its name
 pub record PrintsMethod (world : WorldOf) (class : ClassOf) (before : List MethodOf) (method : MethodOf) (body : Body) : Type 0 where
   pub exp : Exp
   pub straight : IsStraightMethod class before method exp
   pub verified : IsVerified world straight.code
   pub of_method : IsBodyOf class method exp body
   pub shows : SameShows world.headers world.members straight.code body
+  pub typed : is_whole world.headers class.this_class ≡ true → CanBeSaid world.headers world.members class.this_class class.this_class → IsTyped world.headers world.members body
 
 -- the method at a place has no code, and no cause: it is printed without a body
 pub record IsBareMethod (world : WorldOf) (class : ClassOf) (at : ℕ) (method : MethodOf) : Type 0 where

@@ -1,0 +1,16 @@
+pub mod Goes
+pub mod Ending
+pub mod Invariant
+pub mod Converting
+pub mod Operating
+pub mod Results
+pub mod Typed
+pub mod Objects
+pub mod Knowing
+pub mod Forms
+pub mod Constants
+pub mod Parts
+pub mod Calling
+pub mod Choosing
+pub mod Expressions
+pub mod Effects

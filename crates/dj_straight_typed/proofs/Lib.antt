@@ -1,0 +1,3 @@
+mod Rules
+pub mod StraightTyped
+mod Writable

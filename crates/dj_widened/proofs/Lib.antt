@@ -1,0 +1,7 @@
+pub mod Paths
+pub mod Orders
+pub mod Types
+pub mod Members
+pub mod Choice
+pub mod Targets
+pub mod Asked

@@ -1,0 +1,3 @@
+-- What the laws rest on, in reading order.
+pub mod Widens
+pub mod Meant
