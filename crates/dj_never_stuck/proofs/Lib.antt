@@ -8,4 +8,5 @@ pub mod Calls
 pub mod Lists
 pub mod Statements
 pub mod Bodies
-mod Examples
+mod Instances
+mod Needed

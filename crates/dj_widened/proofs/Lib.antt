@@ -5,3 +5,5 @@ pub mod Members
 pub mod Choice
 pub mod Targets
 pub mod Asked
+pub mod Roots
+mod Examples
