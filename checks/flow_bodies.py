@@ -22,9 +22,9 @@ def is_below(lower, upper):
 
 
 class FlowMaker(BodyMaker):
-    """Makes a body that needn't end."""
+    """Makes a body that needn't end, with each `switch` on an int."""
 
-    caught, thrown = ALL_CAUGHT, [*MADE, *CHECKED, "Er"]
+    caught, thrown, switched = ALL_CAUGHT, [*MADE, *CHECKED, "Er"], ["I"]
 
     def always(self):
         """A test that is constant true."""
@@ -101,10 +101,12 @@ def relabelled(one, new):
 
 def trees_in(tree):
     """Each tree within this one, itself first."""
-    if isinstance(tree, (tuple, list)):
-        yield tree
-        for part in tree:
-            yield from trees_in(part)
+    found, left = [], [tree]
+    while left:
+        if isinstance(one := left.pop(), (tuple, list)):
+            found.append(one)
+            left += one[::-1]
+    return found
 
 
 def spots(made, scope, labels):
@@ -356,24 +358,24 @@ class Changer:
         made[at:at] = self.rng.choice([[], [], [own], [("If", self.rng.choice([MORE, ("Bool", False)]), [own], [])]]) + [("Throw", ("Var", name))]
 
 
-CHANGES = [Changer.leave_earlier, Changer.leave_last, Changer.go_on, Changer.fall_through, Changer.drop_return, Changer.drop_statement, Changer.wrap,
-           Changer.drop_value, Changer.drop_set, Changer.move_value, Changer.move_value_into_test, Changer.read_earlier,
-           Changer.test_constant, Changer.test_other, Changer.jump_elsewhere, Changer.throws, Changer.throw_checked,
-           Changer.catch_more, Changer.catch_other, Changer.catch_in_other_order, Changer.catch_less, Changer.throw_again]
+CHANGES = [Changer.leave_earlier, Changer.leave_last, Changer.go_on, Changer.fall_through, Changer.drop_return, Changer.drop_statement, Changer.wrap, Changer.drop_value,
+           Changer.drop_set, Changer.move_value, Changer.move_value_into_test, Changer.read_earlier, Changer.test_constant, Changer.test_other, Changer.jump_elsewhere,
+           Changer.throws, Changer.throw_checked, Changer.catch_more, Changer.catch_other, Changer.catch_in_other_order, Changer.catch_less, Changer.throw_again]
 
 
 def is_printed(body):
-    """Whether no group of a switch but the last is empty: its labels would be those of the next one."""
-    return all(group for each in all_lists(body) for one in each if bare(one)[0] == "Switch" for group in lists_in(one)[:-1])
+    """Whether no group of a switch but the last is empty, whose labels would be those of the next one, and no int stands before a dot, which would be a part of it."""
+    dotted = any(isinstance(tree, tuple) and tree[:1] in (("Call",), ("Field",), ("SetField",)) and tree[1][0] == "Int" for tree in trees_in(body))
+    return not dotted and all(group for each in all_lists(body) for one in each if bare(one)[0] == "Switch" for group in lists_in(one)[:-1])
 
 
-def change(rng, own, made):
+def change(rng, own, made, changer=Changer, changes=CHANGES, more=0.2):
     """The method with a change, and now and then with two, and the names of what was changed."""
     names = []
-    while not names or rng.random() < 0.2:
-        changed, make = copy.deepcopy(made), rng.choice(CHANGES)
+    while not names or rng.random() < more:
+        changed, make = copy.deepcopy(made), rng.choice(changes)
         try:
-            make(Changer(rng, own, changed))
+            make(changer(rng, own, changed))
         except Unchanged:
             continue
         if is_printed(changed["body"]) and LEAST <= size(changed["body"]) <= MOST:

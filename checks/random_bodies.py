@@ -35,7 +35,7 @@ class BodyMaker:
     """Makes one body. `scope` has the variables that may be named and their types, `hidden` others whose
     names are in use, `frozen` those that aren't assigned."""
 
-    caught, thrown = CAUGHT, MADE
+    caught, thrown, switched = CAUGHT, MADE, ["I", "I", "I", *NARROW]
 
     def __init__(self, rng, own, callees, this):
         self.rng, self.own, self.this, self.callees = rng, own, this, callees
@@ -402,7 +402,7 @@ class BodyMaker:
 
     def switch_stm(self, depth):
         numbers = self.rng.sample([0, 1, 2, 3, 127], self.rng.randrange(1, 5))
-        kind = self.rng.choice(["I", "I", "I", *NARROW])
+        kind = self.rng.choice(self.switched)
         if kind == "I":
             numbers += self.rng.sample([-1, 128, 2**31 - 1, -2**31], self.rng.randrange(3))
         wanted = self.exp(kind, 1) if kind != "I" or self.chance(0.3) else ("Binary", "&", self.value("I"), ("Int", 3))
