@@ -7,7 +7,7 @@ use Rattle.dj_names.specs.declared.members.ClassMembers.{ClassMembers}
 use Rattle.dj_names.specs.Headers.{Name, names}
 use Rattle.dj_world.specs.Learning.{Learns}
 use Rattle.dj_sayable.specs.Saying.{CanBeSaid}
-use Rattle.dj_checked.proofs.WordLemmas.{Decides-identifier}
+use Rattle.dj_typing.proofs.WordLemmas.{Decides-identifier}
 use Rattle.dj_typed.specs.Bodies.{IsRight}
 use Rattle.dj_body_types.specs.Views.{writing_of}
 use Rattle.dj_bodies.specs.Said.{HasSaid}

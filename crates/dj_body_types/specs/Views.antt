@@ -10,7 +10,7 @@ use Rattle.dj_reach.specs.declared.jump.Jump.{Jump}
 use Rattle.dj_typed.specs.Statements.{Around}
 use Rattle.dj_typed.specs.Bodies.{Writing}
 use Rattle.dj_checked.specs.Sites.{site_of}
-use Rattle.dj_checked.specs.Words.{is_identifier}
+use Rattle.dj_typing.specs.Words.{is_identifier}
 use Rattle.dj_body_types.specs.declared.around.Around as code_around
 use Rattle.dj_body_types.specs.declared.around.Position.{Position}
 use Rattle.dj_body_types.specs.declared.around.Position.TheVariants as positions

@@ -1,5 +1,4 @@
 mod OrderLemmas
-pub mod WordLemmas
 mod CastingLemmas
 mod FlagLemmas
 mod WholeLemmas

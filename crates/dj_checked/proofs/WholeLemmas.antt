@@ -13,8 +13,8 @@ use Rattle.dj_values.specs.Deciding.{is_name, parents_of, implements}
 use Rattle.dj_values.proofs.Deciding.{Decides-implements}
 use Rattle.dj_sayable.specs.Above.{IsAtOrAbove}
 use Rattle.dj_typing.specs.Sites.{has_header, is_whole}
-use Rattle.dj_checked.specs.Words.{is_among}
-use Rattle.dj_checked.proofs.WordLemmas.{Decides-among}
+use Rattle.dj_typing.specs.Words.{is_among}
+use Rattle.dj_typing.proofs.WordLemmas.{Decides-among}
 
 -- ---- a class has a header
 

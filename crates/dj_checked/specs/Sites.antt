@@ -6,7 +6,7 @@ use Rattle.std.specs.Ordering.{nat_cmp}
 use Rattle.dj_meaning.specs.Members.{view_members}
 use Rattle.dj_typing.specs.Sites.{Site}
 use Rattle.dj_checked.specs.declared.site.Site as code_site
-use Rattle.dj_checked.specs.Words.{is_identifier}
+use Rattle.dj_typing.specs.Words.{is_identifier}
 
 -- the names of classes that can be said are given, and each identifier of Java in ASCII can be written
 abbrev pub site_of : code_site.Site → Site

@@ -9,7 +9,7 @@ ghost use Rattle.dj_typing.specs.Operands.{if_typed};
 ghost use Rattle.dj_typing.specs.Sites.{context_of};
 ghost use Rattle.dj_static.specs.Targets.{view_target};
 ghost use Rattle.dj_checked.specs.Sites.{site_of};
-ghost use Rattle.dj_checked.specs.Words.{is_identifier};
+ghost use Rattle.dj_typing.specs.Words.{is_identifier};
 ghost use Rattle.dj_checked.specs.Walks as spec;
 
 use crate::casting::has_flag;

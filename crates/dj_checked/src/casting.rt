@@ -8,7 +8,7 @@ ghost use Rattle.dj_names.specs.Types.{view_type, view_static};
 ghost use Rattle.dj_values.specs.Deciding as tests;
 ghost use Rattle.dj_typing.specs.Casting as spec;
 ghost use Rattle.dj_checked.specs.Flags.{has_flag, flag_in};
-ghost use Rattle.dj_checked.specs.Words.{is_among};
+ghost use Rattle.dj_typing.specs.Words.{is_among};
 
 use dj_headers::{Headers, is_class_assignable};
 use dj_names::{ClassName, Header, JType, StaticType, same_type};

@@ -4,7 +4,7 @@ ghost use Rattle.std.specs.Prelude.{◌≡◌, ◌&&◌, IfOk};
 ghost use Rattle.dj_names.specs.Types.{view_type};
 ghost use Rattle.dj_typing.specs.Sites as spec;
 ghost use Rattle.dj_checked.specs.Sites.{site_of};
-ghost use Rattle.dj_checked.specs.Words.{is_identifier};
+ghost use Rattle.dj_typing.specs.Words.{is_identifier};
 
 use crate::whole::is_whole;
 use dj_names::{ClassName, JType, Units};

@@ -1,5 +1,5 @@
 -- Tests of names that are right: which names the text of a class can say is decided.
-use Rattle.std.proofs.Common.{◌≡◌, ◌⊎◌, ℕ, zero, suc, ◌==◌, nat_le, ◌≤◌, leb-true, le-leb, Bool, true, false, not, ◌&&◌, ◌||◌, Decides, List, [], ◌∷◌, ◌++◌, Contains, Some, refl, sym, ap, subst, ◌∙◌, inl, inr}
+use Rattle.std.proofs.Common.{◌≡◌, ◌⊎◌, ℕ, zero, suc, ◌==◌, Bool, true, false, not, ◌&&◌, ◌||◌, Decides, List, [], ◌∷◌, ◌++◌, Contains, Some, refl, sym, ap, subst, ◌∙◌, inl, inr}
 use Rattle.std.specs.Prelude.{codes, slice_get}
 use Rattle.std.specs.List.{list_any, list_all}
 use Rattle.std.proofs.lemmas.Bool.{false≢true}
@@ -18,21 +18,11 @@ use Rattle.dj_values.specs.Deciding.{is_name, implements}
 use Rattle.dj_values.proofs.Deciding.{Decides-implements}
 use Rattle.dj_sayable.specs.Saying.{first_segment, HasFieldInScope, IsUnobscured, IsTakenForPackage, CanBeSaid}
 use Rattle.dj_typing.specs.Sites.{has_header}
-use Rattle.dj_checked.specs.Words.{is_identifier}
-use Rattle.dj_checked.proofs.WordLemmas.{Decides-among, Decides-identifier}
+use Rattle.dj_typing.specs.Words.{is_digit, is_identifier}
+use Rattle.dj_typing.proofs.WordLemmas.{Decides-among, Decides-digit, Decides-identifier}
 use Rattle.dj_typed.specs.Bodies.{Writing, IsRight}
 
 -- ---- names
-
--- a digit
-abbrev is_digit : ℕ → Bool
-is_digit unit = nat_le 48 unit && nat_le unit 57
-
-Decides-at_most : (least most : ℕ) → Decides (nat_le least most) (least ≤ most)
-Decides-at_most least most = (leb-true least most, le-leb least most)
-
-Decides-digit : (unit : ℕ) → Decides (is_digit unit) (IsDigit unit)
-Decides-digit unit = Decides-and _ _ (Decides-at_most 48 unit) (Decides-at_most unit 57)
 
 -- a unit is among others
 abbrev has_unit : ℕ → List ℕ → Bool

@@ -1,6 +1,6 @@
 use Rattle.std.proofs.lemmas.Bool.Decides.{same_from_decides}
 use Rattle.dj_names.specs.Assignable.{above_arrays}
-use Rattle.dj_checked.proofs.WordLemmas.{Decides-among}
+use Rattle.dj_typing.proofs.WordLemmas.{Decides-among}
 use Rattle.dj_checked.proofs.casting.is_above_arrays.Goals as goal
 
 pub returns : goal.returns

@@ -6,7 +6,7 @@ use Rattle.dj_meaning.specs.Members.{view_members}
 use Rattle.dj_places.specs.declared.kind.TypeKind.TheVariants as kinds
 use Rattle.dj_typing.specs.Sites.{may_name}
 use Rattle.dj_checked.specs.Sites.{site_of}
-use Rattle.dj_checked.specs.Words.{is_identifier}
+use Rattle.dj_typing.specs.Words.{is_identifier}
 use Rattle.dj_checked.specs.Walks.{note, note_whole}
 use Rattle.dj_checked.proofs.PartLemmas.{is_some_field, leaf_noted, whole_noted}
 use Rattle.dj_checked.proofs.leaves.static_field.Goals as goal

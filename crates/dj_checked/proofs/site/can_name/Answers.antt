@@ -1,5 +1,5 @@
 use Rattle.std.proofs.lemmas.Bool.Decides.{same_from_decides}
-use Rattle.dj_checked.proofs.WordLemmas.{Decides-identifier}
+use Rattle.dj_typing.proofs.WordLemmas.{Decides-identifier}
 use Rattle.dj_checked.proofs.site.can_name.Goals as goal
 
 pub returns : goal.returns

@@ -7,7 +7,7 @@ use Rattle.std.proofs.lemmas.List.Elements.{Decides-contains}
 use Rattle.dj_names.specs.Identifiers.{IsLetter, IsDigit, IsIdentifierChars, IsIdentifier, keywords, word_literals}
 use Rattle.dj_values.specs.Deciding.{is_name}
 use Rattle.dj_values.proofs.Deciding.{Decides-name}
-use Rattle.dj_checked.specs.Words.{is_among, is_letter, is_digit, has_identifier_chars, is_identifier}
+use Rattle.dj_typing.specs.Words.{is_among, is_letter, is_digit, has_identifier_chars, is_identifier}
 
 pub Decides-among : (names : List (List ℕ)) (name : List ℕ) → Decides (is_among names name) (Contains names name)
 Decides-among names name =
@@ -22,7 +22,7 @@ Decides-letter unit =
     Decides-or _ _ (Decides-and _ _ (Decides-at_most 65 unit) (Decides-at_most unit 90))
     (Decides-or _ _ (Decides-and _ _ (Decides-at_most 97 unit) (Decides-at_most unit 122)) (Decides-or _ _ (Decides-eqb unit 95) (Decides-eqb unit 36)))
 
-Decides-digit : (unit : ℕ) → Decides (is_digit unit) (IsDigit unit)
+pub Decides-digit : (unit : ℕ) → Decides (is_digit unit) (IsDigit unit)
 Decides-digit unit = Decides-and _ _ (Decides-at_most 48 unit) (Decides-at_most unit 57)
 
 Decides-chars : (units : List ℕ) → Decides (has_identifier_chars units) (IsIdentifierChars units)
