@@ -53,6 +53,22 @@ const LOOP: &[(u32, u8, u8)] = &[
     (18, b'I', b'-'),
 ];
 
+/// So too, but a long where it begins.
+const WANTS_A_LONG: &[(u32, u8, u8)] = &[
+    (2, b'J', b'-'),
+    (14, b'I', b'-'),
+    (17, b'I', b'T'),
+    (18, b'I', b'-'),
+];
+
+/// So too, but nothing on the stack of the handler's.
+const CATCHES_NOTHING: &[(u32, u8, u8)] = &[
+    (2, b'I', b'-'),
+    (14, b'I', b'-'),
+    (17, b'I', b'-'),
+    (18, b'I', b'-'),
+];
+
 /// Counts a local to ten, inside a handler of everything.
 fn counts(max_stack: u16, start: u32, frames: &'static [(u32, u8, u8)]) -> Sketch {
     Sketch {
@@ -140,6 +156,9 @@ fn java_asks_more_than_the_machine(rt: HostRuntime) -> Result<(), Fail> {
     Ok(())
 }
 
+/// Frames that hold nothing, the last one first.
+const LATEST_FIRST: &[(u32, u8, u8)] = &[(5, b'-', b'-'), (4, b'-', b'-'), (3, b'-', b'-')];
+
 /// Methods, each with what is told of it.
 fn methods() -> [(Sketch, Told); 10] {
     [
@@ -150,19 +169,7 @@ fn methods() -> [(Sketch, Told); 10] {
             Told::Unverified(3, Rule::NoFrame),
         ),
         // The loop's frame wants a long where an int is.
-        (
-            counts(
-                2,
-                2,
-                &[
-                    (2, b'J', b'-'),
-                    (14, b'I', b'-'),
-                    (17, b'I', b'T'),
-                    (18, b'I', b'-'),
-                ],
-            ),
-            Told::Unverified(2, Rule::Into),
-        ),
+        (counts(2, 2, WANTS_A_LONG), Told::Unverified(2, Rule::Into)),
         // A `pop` of nothing.
         (
             plain(b"\x57\xb1", 1, &[]),
@@ -177,16 +184,7 @@ fn methods() -> [(Sketch, Told); 10] {
         ),
         // The handler's frame wants nothing on the stack.
         (
-            counts(
-                2,
-                2,
-                &[
-                    (2, b'I', b'-'),
-                    (14, b'I', b'-'),
-                    (17, b'I', b'-'),
-                    (18, b'I', b'-'),
-                ],
-            ),
+            counts(2, 2, CATCHES_NOTHING),
             Told::Unverified(2, Rule::Handler),
         ),
         // The range begins at the store, before which nothing is known of the local.
@@ -195,11 +193,7 @@ fn methods() -> [(Sketch, Told); 10] {
         (plain(b"\x00", 0, &[]), Told::Unverified(0, Rule::Past)),
         // A `pop` of nothing at 3 and at 4, of which the frame of the later one is given first.
         (
-            plain(
-                b"\xa7\x00\x05\x57\x57\xb1",
-                1,
-                &[(5, b'-', b'-'), (4, b'-', b'-'), (3, b'-', b'-')],
-            ),
+            plain(b"\xa7\x00\x05\x57\x57\xb1", 1, LATEST_FIRST),
             Told::Unverified(3, Rule::Operands),
         ),
     ]
