@@ -1,6 +1,7 @@
 //! How deep a text nests, found in one pass over its words.
 
 ghost use Rattle.std.specs.Prelude.{◌≡◌, ◌≤◌, ◌<◌, ◌↔◌, IfOk, IsTrue, OnOk};
+ghost use Rattle.dj_depth.specs.declared.effects.Effect.TheVariants.{Passes};
 ghost use Rattle.dj_depth.specs.Depth.{IsDeep, after, after_bracket, after_dot, after_word, begun, bracketed, closed, counted, depth, is_in_body, joined, labelled, most_depth, no_words, opened, opened_within, passed, restarted, separated, unwrapped, wrapped};
 
 use crate::effects::{Behind, Effect, effect_of_word};
@@ -19,8 +20,7 @@ pub fn is_deep(alloc: Global, text: &[u8]) -> Result<bool, AllocError>
     let mut reader = Reader::new(text);
     let mut nesting = Nesting::new(alloc);
     while let Some(word) = reader.take_next() {
-        nesting.read(effect_of_word(word))?;
-        if nesting.is_deep() {
+        if nesting.read(effect_of_word(word))? {
             return Ok(true);
         }
     }
@@ -72,6 +72,7 @@ impl Nesting {
     }
 
     /// Whether words nest too deep.
+    #[inline(always)]
     fn is_deep(&self) -> bool
         ensures deep { IsTrue result ↔ (most_depth < depth self.now) }
     {
@@ -81,20 +82,45 @@ impl Nesting {
         around.saturating_add(self.level.ended.max(made)) > MOST_DEPTH
     }
 
-    /// A word more, given what it does.
-    fn read(&mut self, effect: Effect) -> Result<(), AllocError>
+    /// A word more, given what it does, and whether words nest too deep then. One of which no tree is
+    /// made changes no depth.
+    #[inline(always)]
+    fn read(&mut self, effect: Effect) -> Result<bool, AllocError>
         requires shallow { depth self.old ≤ most_depth }
         ensures read { OnOk result (self.new ≡ after effect self.old) }
+        ensures deep { IfOk result (λ deep. IsTrue deep ↔ (most_depth < depth self.new)) }
     {
         match self.last {
             Behind::Other => self.read_behind_word(effect)?,
             Behind::Dot => self.read_behind_dot(effect)?,
             Behind::Bracket => self.read_behind_bracket(effect)?,
         }
-        Ok(())
+        Ok(self.is_deep_behind(effect))
+    }
+
+    /// Whether words nest too deep behind one that does this, given that those before it don't.
+    fn is_deep_behind(&self, effect: Effect) -> bool
+        requires shallow { effect ≡ Passes → depth self.now ≤ most_depth }
+        ensures deep { IsTrue result ↔ (most_depth < depth self.now) }
+    {
+        match effect {
+            Effect::Passes => false,
+            Effect::Counts
+            | Effect::Joins
+            | Effect::Wraps
+            | Effect::Brackets
+            | Effect::Unwraps
+            | Effect::Parts
+            | Effect::Labels
+            | Effect::Starts
+            | Effect::Opens
+            | Effect::Closes
+            | Effect::Ends => self.is_deep(),
+        }
     }
 
     /// A word more, behind another than a dot or an opening bracket.
+    #[inline(always)]
     fn read_behind_word(&mut self, effect: Effect) -> Result<(), AllocError>
         requires shallow { depth self.old ≤ most_depth }
         ensures read { OnOk result (self.new ≡ after_word effect self.old) }
@@ -154,6 +180,7 @@ impl Nesting {
     }
 
     /// A word that counts nothing.
+    #[inline(always)]
     fn pass(&mut self)
         ensures passed { self.new ≡ passed self.old }
     {
@@ -161,6 +188,7 @@ impl Nesting {
     }
 
     /// A word that counts, behind which a colon ends no label.
+    #[inline(always)]
     fn count(&mut self)
         requires shallow { depth self.old ≤ most_depth }
         ensures counted { self.new ≡ counted self.old }
@@ -189,6 +217,7 @@ impl Nesting {
     }
 
     /// A parenthesis opens, behind which a colon ends no label.
+    #[inline(always)]
     fn wrap(&mut self) -> Result<(), AllocError>
         requires shallow { depth self.old ≤ most_depth }
         ensures wrapped { OnOk result (self.new ≡ wrapped self.old) }
@@ -200,6 +229,7 @@ impl Nesting {
     }
 
     /// A bracket opens.
+    #[inline(always)]
     fn bracket(&mut self) -> Result<(), AllocError>
         requires shallow { depth self.old ≤ most_depth }
         ensures bracketed { OnOk result (self.new ≡ bracketed self.old) }
@@ -213,6 +243,7 @@ impl Nesting {
     }
 
     /// A parenthesis or bracket closes, where one is open.
+    #[inline(always)]
     fn unwrap(&mut self)
         requires shallow { depth self.old ≤ most_depth }
         ensures unwrapped { self.new ≡ unwrapped self.old.around self.old }

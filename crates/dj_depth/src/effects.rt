@@ -46,6 +46,7 @@ pub enum Behind {
 }
 
 /// What a word does. Those that come most are told by their first character.
+#[inline(always)]
 pub fn effect_of_word(word: &[u8]) -> Effect
     ensures effect { result ≡ effect_of (token_of word.now) }
 {

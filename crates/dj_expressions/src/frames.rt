@@ -271,12 +271,24 @@ pub fn opened_again(
 pub fn called(alloc: Global, callee: Callee, arguments: Items<Exp>) -> Result<Exp, AllocError>
     ensures called { IfOk result (λ made. view_exp made ≡ called (view_callee callee) (exps_of (map view_exp arguments))) }
 {
-    match boxed_list(alloc, arguments) {
+    match boxed_arguments(alloc, arguments) {
         Ok(arguments) => called_with_all(alloc, callee, arguments),
         Err(error) => {
             discard(callee);
             Err(error)
         }
+    }
+}
+
+/// Arguments in a box, in no more room than they take: one that is alone has a list with room for no
+/// other.
+fn boxed_arguments(alloc: Global, arguments: Items<Exp>) -> Result<Boxed<Items<Exp>>, AllocError>
+    ensures same { IfOk result (λ boxed. boxed ≡ arguments) }
+{
+    if arguments.len() > 1 {
+        boxed_list(alloc, arguments)
+    } else {
+        Ok(Boxed::new(alloc, arguments)?)
     }
 }
 

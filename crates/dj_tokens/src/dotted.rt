@@ -1,6 +1,6 @@
 //! Names of words with dots between them, read a word at a time (JLS 6.5).
 
-ghost use Rattle.std.specs.Prelude.{◌≡◌, IfOk, OnOk, option_map};
+ghost use Rattle.std.specs.Prelude.{◌≡◌, ◌++◌, ◌∷◌, IfOk, OnOk, option_map};
 ghost use Rattle.dj_names.specs.Types.{view_type};
 ghost use Rattle.dj_syntax.specs.Trees.{view_exp};
 ghost use Rattle.dj_tokens.specs.Dotted.{begun, extended, field_of_value, joined_to, prefix_units, primitive_of, type_of_name, value_of, variable_in, whole};
@@ -13,9 +13,6 @@ use crate::words::is_word;
 use dj_names::{Boxed, ClassName, JType, Units};
 use dj_syntax::Exp;
 use std::alloc::{AllocError, Global};
-
-/// The room that a name of several words is given at first.
-const ROOM: usize = 32;
 
 /// The keyword that stands before the name of a method above.
 const SUPER: &[u8] = b"super";
@@ -95,7 +92,7 @@ impl DottedName {
     ) -> Result<(), AllocError>
         ensures extended { OnOk result (view_name self.new ≡ extended (view_name self.old) word.now) }
     {
-        let prefix = joined_to(alloc, self.prefix.take(), &self.last)?;
+        let prefix = prefix_with(alloc, names, self.prefix.take(), &self.last)?;
         let last = names.word(alloc, word)?;
         let value = field_of_value(alloc, self.value.take(), word, &last)?;
         self.prefix = Some(prefix);
@@ -227,22 +224,46 @@ fn type_of(kind: Primitive) -> JType
     }
 }
 
+/// The words before the last one with that one behind them, and a slash between them where there are
+/// any. The first of them is given room that another name no longer takes.
+fn prefix_with(
+    alloc: Global,
+    names: &mut KnownNames,
+    prefix: Option<Vec<u16>>,
+    last: &Units,
+) -> Result<Vec<u16>, AllocError>
+    ensures joined { IfOk result (λ units. units.items ≡ joined_to (option_map (λ prefix. prefix.items) prefix) last.now) }
+{
+    match prefix {
+        None => behind(names.room(alloc)?, last),
+        Some(units) => behind_slash(units, last),
+    }
+}
+
 /// Units with a slash and others behind them, where there are any before.
 fn joined_to(alloc: Global, prefix: Option<Vec<u16>>, last: &Units) -> Result<Vec<u16>, AllocError>
     ensures joined { IfOk result (λ units. units.items ≡ joined_to (option_map (λ prefix. prefix.items) prefix) last.now) }
 {
     match prefix {
-        None => {
-            let mut units = Vec::with_capacity(alloc, ROOM)?;
-            units.extend_from_slice(last.as_slice())?;
-            Ok(units)
-        }
-        Some(mut units) => {
-            units.push(SLASH)?;
-            units.extend_from_slice(last.as_slice())?;
-            Ok(units)
-        }
+        None => Ok(Vec::from_slice(alloc, last.as_slice())?),
+        Some(units) => behind_slash(units, last),
     }
+}
+
+/// Units with a slash and others behind them.
+fn behind_slash(mut units: Vec<u16>, last: &Units) -> Result<Vec<u16>, AllocError>
+    ensures behind { IfOk result (λ joined. joined.items ≡ units.items ++ 47 ∷ last.now) }
+{
+    units.push(SLASH)?;
+    behind(units, last)
+}
+
+/// Units with others behind them.
+fn behind(mut units: Vec<u16>, last: &Units) -> Result<Vec<u16>, AllocError>
+    ensures behind { IfOk result (λ joined. joined.items ≡ units.items ++ last.now) }
+{
+    units.extend_from_slice(last.as_slice())?;
+    Ok(units)
 }
 
 /// The class before a static member, of no name where there is none.

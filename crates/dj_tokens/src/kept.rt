@@ -1,6 +1,6 @@
 //! Names that were read, of which those that come again soon are kept once.
 
-ghost use Rattle.std.specs.Prelude.{◌≡◌, IfOk, IfSome, IsTrue};
+ghost use Rattle.std.specs.Prelude.{◌≡◌, [], IfOk, IfSome, IsTrue};
 
 use crate::names::units_of;
 use dj_names::{Items, Units};
@@ -9,11 +9,15 @@ use std::alloc::{AllocError, Global};
 /// How many names are kept.
 const MOST: usize = 16;
 
-/// The last few names that were read.
+/// The room that a name of several words is given at first.
+const ROOM: usize = 32;
+
+/// The last few names that were read, and the room that one of them took and no longer takes.
 #[derive(Drop)]
 pub struct KnownNames {
     names: Items<Units>,
     next: usize,
+    room: Option<Vec<u16>>,
 }
 
 impl KnownNames {
@@ -22,6 +26,20 @@ impl KnownNames {
         KnownNames {
             names: Items::new(alloc),
             next: 0,
+            room: None,
+        }
+    }
+
+    /// Room for a name of several words, which has none yet.
+    pub fn room(&mut self, alloc: Global) -> Result<Vec<u16>, AllocError>
+        ensures empty { IfOk result (λ room. room.items ≡ []) }
+    {
+        match self.room.take() {
+            Some(mut room) => {
+                room.clear();
+                Ok(room)
+            }
+            None => Ok(Vec::with_capacity(alloc, ROOM)?),
         }
     }
 
@@ -37,11 +55,13 @@ impl KnownNames {
         Ok(units)
     }
 
-    /// The units of a name. They take no room of their own where the name is among the last ones.
+    /// The units of a name. They take no room of their own where the name is among the last ones; the
+    /// next name is then given the room of this one.
     pub fn shared(&mut self, alloc: Global, name: Vec<u16>) -> Result<Units, AllocError>
         ensures same { IfOk result (λ shared. shared ≡ name.items) }
     {
         if let Some(units) = equal(alloc, self.names.as_slice(), name.as_slice())? {
+            self.room = Some(name);
             return Ok(units);
         }
         let units = Units::from_vec(name)?;

@@ -54,6 +54,7 @@ pub enum Token {
 }
 
 /// What a word is. The separators that come most are told first.
+#[inline(always)]
 pub fn token_of(word: &[u8]) -> Token
     ensures token { result ≡ token_of word.now }
 {
@@ -104,6 +105,7 @@ fn sign_of(word: &[u8]) -> Token
 }
 
 /// A keyword, or a name. Its first letter tells which keywords a word is compared with.
+#[inline(always)]
 fn word_of(word: &[u8]) -> Token
     ensures token { result ≡ word_of word.now }
 {

@@ -57,6 +57,7 @@ impl<'a> Reader<'a> {
     }
 
     /// The first word, behind which the reader goes on, where a word is left.
+    #[inline(always)]
     pub fn take_next(&mut self) -> Option<&'a [u8]>
         ensures first { IfSome result (λ word. word.now ≡ first_word self.old) }
         ensures rest { IfSome result (λ _. self.new ≡ other_words self.old) }
@@ -114,6 +115,7 @@ pub fn is_word(word: &[u8], other: &[u8]) -> bool
 }
 
 /// A text from its first word on.
+#[inline(always)]
 fn past_blanks(text: &[u8]) -> &[u8]
     ensures words { words result.now ≡ words text.now }
     ensures front { begins is_blank result.now ≡ false }
@@ -122,6 +124,7 @@ fn past_blanks(text: &[u8]) -> &[u8]
 }
 
 /// How many blanks a text begins with.
+#[inline(always)]
 fn blanks(text: &[u8]) -> usize
     ensures blanks { result ≡ length (take_while is_blank text.now) }
 {
@@ -129,6 +132,7 @@ fn blanks(text: &[u8]) -> usize
 }
 
 /// Where the word ends that a text begins with.
+#[inline(always)]
 fn word_end(text: &[u8]) -> usize
     requires word { begins is_blank text.now ≡ false }
     ensures within { result ≤ length text.now }
@@ -163,6 +167,7 @@ fn literal_length(text: &[u8]) -> usize
 }
 
 /// How many letters a text begins with.
+#[inline(always)]
 fn letters(text: &[u8]) -> usize
     ensures letters { result ≡ length (take_while is_letter text.now) }
 {
@@ -170,6 +175,7 @@ fn letters(text: &[u8]) -> usize
 }
 
 /// How many characters of operators a text begins with.
+#[inline(always)]
 fn operators(text: &[u8]) -> usize
     ensures operators { result ≡ length (take_while is_operator text.now) }
 {
