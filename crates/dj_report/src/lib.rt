@@ -1,8 +1,9 @@
 //! How a run ends, and the lines of its report.
 //! It stands on `dj_outer` for sinks, on `dj_words` for what may be wrong with words, on `dj_names` for names and types, on `dj_pool` for what may be wrong with a class file, on `dj_world` for how a class may clash with others, on `dj_instructions` for what may be wrong with code, on `dj_verify` for the rules of type checking, and on `dj_causes` for why something is refused.
-//! The layer above uses the functions that make a line (`line`) or the end of one (`tail`), those that put one piece by piece (`puts`), and `Status`.
+//! The layer above uses the functions that make a line (`line`) or the end of one (`tail`), those that put one without memory (`puts`), and `Status`.
 #![tactic(auto)]
 
+mod gathered;
 mod named;
 mod putting;
 mod refused;
