@@ -37,7 +37,7 @@ impl MadeWith<Global> for Entry {
 #[derive(Drop)]
 pub struct Stack {
     below: Slots,
-    top: SmallVec<Entry, 6>,
+    top: SmallVec<Entry, 3>,
 }
 
 impl Model for Stack {

@@ -30,7 +30,7 @@ fn local_at_goes<G: Goes>(goes: &G, from: &Slots, to: &Slots, slot: usize) -> bo
 }
 
 /// Whether locals go one by one.
-fn locals_go<G: Goes>(goes: &G, from: &Slots, to: &Slots) -> bool
+pub fn locals_go<G: Goes>(goes: &G, from: &Slots, to: &Slots) -> bool
     ensures go { IsTrue result ↔ LocalsGo (G.relation goes.now) (view_tags from.now) (view_tags to.now) }
 {
     for slot in 0..to.len() {
@@ -54,7 +54,7 @@ fn place_goes<G: Goes>(goes: &G, from: &Slots, to: &Slots, place: usize) -> bool
 }
 
 /// Whether entries of the stack, listed from the bottom up, go one by one.
-fn entries_go<G: Goes>(goes: &G, from: &Slots, to: &Slots) -> bool
+pub fn entries_go<G: Goes>(goes: &G, from: &Slots, to: &Slots) -> bool
     ensures go { IsTrue result ↔ EntriesGo (G.relation goes.now) (reversed (view_tags from.now)) (reversed (view_tags to.now)) }
 {
     if from.len() != to.len() {

@@ -7,3 +7,4 @@ mod ReachedFrames
 mod PlaceSteps
 mod PlacedFrames
 mod OneTable
+mod LandingFrames

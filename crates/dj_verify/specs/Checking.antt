@@ -1,5 +1,5 @@
 -- What the functions that check a place promise each other.
-use Rattle.std.specs.Prelude.{◌≡◌, ◌↔◌, ℕ, ◌≤◌, List, [], ◌∷◌, length, drop, slice_get, Bool, Option, Some, None, option_map, IfSome, IsTrue}
+use Rattle.std.specs.Prelude.{◌≡◌, ◌↔◌, ℕ, ◌≤◌, List, [], ◌∷◌, ◌++◌, map, length, drop, slice_get, Bool, true, false, Option, Some, None, option_map, IfSome, IsTrue}
 use Rattle.std.specs.Option.{option_and_then}
 use Rattle.std.specs.Ordering.{nat_cmp}
 use Rattle.std.specs.BTreeMap as tree
@@ -13,11 +13,7 @@ use Rattle.dj_tags.specs.Goes.{Assignability, Working, top_down}
 use Rattle.dj_effects.specs.Doing.{IsKnown}
 use Rattle.dj_verify.specs.declared.subject.Subject.{Subject}
 use Rattle.dj_verify.specs.declared.rule.Rule.{Rule}
-use Rattle.dj_verify.specs.declared.rule.Rule.TheVariants.{NoFrame, Into, Operands, Room, Target, Handler, Past}
-use Rattle.dj_verify.specs.declared.checking.Placed.{Placed}
-use Rattle.dj_verify.specs.declared.checking.Placed.TheVariants.{Wrong, At}
-use Rattle.dj_verify.specs.declared.checking.Checked.{Checked}
-use Rattle.dj_verify.specs.declared.checking.Checked.TheVariants.{Breaks, Kept}
+use Rattle.dj_verify.specs.declared.rule.Rule.TheVariants.{Into, Operands, Room, Target, Handler, Past}
 use Rattle.dj_verify.specs.Rules.{Place, frame_in, FrameKeeps}
 use Rattle.dj_verify.specs.Table.{frame_at, flow_behind, Keeps, KeepsAll, BreaksFirst, rules}
 
@@ -64,20 +60,30 @@ abbrev pub IsBroken : (Rule → Type 0) → List Rule → Option Rule → Type 0
 IsBroken Keep list None = KeepsAll Keep list
 IsBroken Keep list (Some rule) = BreaksFirst Keep list rule
 
--- the frame at a place, or which of the first two rules is broken there
-abbrev pub IsPlaced : Assignability → List Header → Code → Place → Placed → Type 0
-IsPlaced Goes headers code place (Wrong rule) = BreaksFirst (Keeps Goes headers code place) rules rule
-IsPlaced Goes headers code place (At frame) =
-    (frame_at code place ≡ Some (working_of frame)) × Keeps Goes headers code place NoFrame × Keeps Goes headers code place Into
+-- what flows in goes into the frame at a place, which is this one; or it doesn't, and is the first rule broken there
+abbrev pub IsPlaced : Assignability → List Header → Code → Place → Option Working → Bool → Type 0
+IsPlaced Goes headers code place frame true = (frame_at code place ≡ frame) × Keeps Goes headers code place Into
+IsPlaced Goes headers code place frame false = BreaksFirst (Keeps Goes headers code place) rules Into
 
--- the first of the later rules that an instruction with its frame breaks; or the frame, and what flows on, where it keeps them all
-abbrev pub IsFrameChecked : Assignability → List Header → Code → Place → Working → Checked → Type 0
-IsFrameChecked Goes headers code place frame (Breaks rule) = BreaksFirst (FrameKeeps Goes headers code place frame) (Operands ∷ late_rules) rule
-IsFrameChecked Goes headers code place frame (Kept same behind) =
-    (working_of same ≡ frame) × KeepsAll (FrameKeeps Goes headers code place frame) (Operands ∷ late_rules) × (flow_of behind ≡ flow_behind code place frame)
+-- frames of the code, seen from the tops of their stacks down
+abbrev pub workings : List code_frame.Frame → List Working
+workings frames = map top_down (map view_frame frames)
+
+-- the first of the later rules that an instruction with its frame breaks; or where it keeps them all, the frame behind those before, and what flows on
+abbrev pub IsFrameChecked : Assignability → List Header → Code → Place → Working → List code_frame.Frame → List code_frame.Frame → Option code_frame.Frame → Option Rule → Type 0
+IsFrameChecked Goes headers code place frame before after behind (Some rule) = BreaksFirst (FrameKeeps Goes headers code place frame) (Operands ∷ late_rules) rule
+IsFrameChecked Goes headers code place frame before after behind None =
+    (workings after ≡ workings before ++ frame ∷ []) × KeepsAll (FrameKeeps Goes headers code place frame) (Operands ∷ late_rules) × (flow_of behind ≡ flow_behind code place frame)
+
+-- the place keeps all rules with its frame, which is put behind those before, and what flows on
+pub record IsKept (Goes : Assignability) (headers : List Header) (code : Code) (place : Place) (before after : List code_frame.Frame) (behind : Option code_frame.Frame) : Type 0 where
+  pub frame : Working
+  pub frame_is : frame_at code place ≡ Some frame
+  pub put : workings after ≡ workings before ++ frame ∷ []
+  pub keeps : KeepsAll (Keeps Goes headers code place) rules
+  pub flows : flow_of behind ≡ flow_behind code place frame
 
 -- the same of all rules at a place
-abbrev pub IsChecked : Assignability → List Header → Code → Place → Checked → Type 0
-IsChecked Goes headers code place (Breaks rule) = BreaksFirst (Keeps Goes headers code place) rules rule
-IsChecked Goes headers code place (Kept frame behind) =
-    (frame_at code place ≡ Some (working_of frame)) × KeepsAll (Keeps Goes headers code place) rules × (flow_of behind ≡ flow_behind code place (working_of frame))
+abbrev pub IsChecked : Assignability → List Header → Code → Place → List code_frame.Frame → List code_frame.Frame → Option code_frame.Frame → Option Rule → Type 0
+IsChecked Goes headers code place before after behind (Some rule) = BreaksFirst (Keeps Goes headers code place) rules rule
+IsChecked Goes headers code place before after behind None = IsKept Goes headers code place before after behind

@@ -5,3 +5,4 @@ pub mod Verified
 pub mod Tabled
 -- What the crate keeps to itself.
 pub mod Checking
+pub mod Landings

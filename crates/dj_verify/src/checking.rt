@@ -1,19 +1,20 @@
 //! One instruction where it stands: the rules in order.
 
-ghost use Rattle.std.specs.Prelude.{◌≡◌, ◌↔◌, ◌≤◌, [], Option, IsTrue, IfOk, IfSome, MatchOption};
+ghost use Rattle.std.specs.Prelude.{◌≡◌, ◌↔◌, ◌≤◌, [], Option, None, IsTrue, IfOk, IfSome};
 ghost use Rattle.dj_instructions.specs.Instructions as instructions;
 ghost use Rattle.dj_instructions.specs.Instructions.{Instructions, view_instruction};
 ghost use Rattle.dj_code.specs.MethodCode.{view_code};
 ghost use Rattle.dj_tags.specs.Goes as tags;
 ghost use Rattle.dj_tags.specs.Goes.{FrameGoes};
 ghost use Rattle.dj_effects.specs.Rows.{work};
-ghost use Rattle.dj_effects.specs.Operands.{HasOperands};
 ghost use Rattle.dj_effects.specs.Effects.{effect, locals_needed};
 ghost use Rattle.dj_verify.specs.Rules.{HasRoom, FrameKeeps};
 ghost use Rattle.dj_verify.specs.Checking.{working_of, flow_of, AreTold, IsReady, late_rules, IsBroken, IsPlaced, IsFrameChecked, IsChecked};
+ghost use Rattle.dj_verify.specs.Landings.{HasLandings};
 
+use crate::landing::handlers_take;
 use crate::padding::padded_frame;
-use crate::reaching::{falls, handlers_take, jumps};
+use crate::reaching::{falls, jumps};
 use crate::rooms::{flow_fits, has_room};
 use crate::rule::Rule;
 use crate::subject::Subject;
@@ -22,22 +23,9 @@ use dj_code::Code;
 use dj_effects::Working;
 use dj_frames::Frame;
 use dj_instructions::Instruction;
+use dj_names::Items;
 use dj_tags::{Goes, frame_goes};
 use std::alloc::{AllocError, Global};
-
-/// The frame at a place, or the rule that is broken.
-#[derive(Drop)]
-pub enum Placed {
-    Wrong(Rule),
-    At(Frame),
-}
-
-/// What was found at a place: the rule that is broken, or its frame and what flows on.
-#[derive(Drop)]
-pub enum Checked {
-    Breaks(Rule),
-    Kept { frame: Frame, behind: Option<Frame> },
-}
 
 /// An instruction where it stands, and whether what flows in has no more locals than there are.
 #[derive(Drop)]
@@ -58,58 +46,26 @@ fn flows_into<G: Goes>(goes: &G, flow: &Option<Frame>, given: &Frame) -> bool
     }
 }
 
-/// The frame at a place: the one given there, which takes what flows in, or what flows in.
+/// Puts the frame at a place where what flows in is: the one given there, if there is one. Whether that takes what flows in.
 fn place_frame<G: Goes>(
     alloc: Global,
     goes: &G,
     subject: &Subject<'_>,
     pc: u32,
-    flow: Option<Frame>,
-) -> Result<Placed, AllocError>
+    flow: &mut Option<Frame>,
+) -> Result<bool, AllocError>
     requires ready { IsReady subject.now }
-    ensures placed { (instruction : instructions.Instruction) (rest : Instructions) → IfOk result (IsPlaced (G.relation goes.now) (G.known goes.now) (view_code subject.now.code.now) (record { flow = flow_of flow; pc = pc; instruction = instruction; rest = rest })) }
+    ensures placed { (instruction : instructions.Instruction) (rest : Instructions) → IfOk result (IsPlaced (G.relation goes.now) (G.known goes.now) (view_code subject.now.code.now) (record { flow = flow_of flow.old; pc = pc; instruction = instruction; rest = rest }) (flow_of flow.new)) }
 {
-    match subject.given(pc) {
-        None => match flow {
-            None => Ok(Placed::Wrong(Rule::NoFrame)),
-            Some(flow) => Ok(Placed::At(flow)),
-        },
-        Some(given) => {
-            if !flows_into(goes, &flow, given) {
-                return Ok(Placed::Wrong(Rule::Into));
-            }
-            let all = padded_frame(alloc, given, subject.code.max_locals)?;
-            Ok(Placed::At(all))
-        }
+    let Some(given) = subject.given(pc) else {
+        return Ok(true);
+    };
+    if !flows_into(goes, flow, given) {
+        return Ok(false);
     }
-}
-
-/// The frame behind an instruction whose operands are in the frame.
-fn behind<G: Goes>(
-    alloc: Global,
-    goes: &G,
-    subject: &Subject<'_>,
-    site: &Site<'_>,
-    frame: &Frame,
-) -> Result<Option<Frame>, AllocError>
-    requires ready { IsReady subject.now }
-    ensures behind { IfOk result (λ after. MatchOption after (¬ HasOperands (G.relation goes.now) (G.known goes.now) (view_code subject.now.code.now) site.now.pc (work (view_code subject.now.code.now) (view_instruction site.now.instruction.now)) (working_of frame.now)) (λ after. HasOperands (G.relation goes.now) (G.known goes.now) (view_code subject.now.code.now) site.now.pc (work (view_code subject.now.code.now) (view_instruction site.now.instruction.now)) (working_of frame.now) × (working_of after ≡ effect (view_code subject.now.code.now) site.now.pc (work (view_code subject.now.code.now) (view_instruction site.now.instruction.now)) (working_of frame.now)))) }
-{
-    let mut working = Working::from_frame(alloc, frame)?;
-    let done = apply(
-        alloc,
-        goes,
-        subject.known,
-        subject.code,
-        site.pc,
-        site.instruction,
-        &mut working,
-    )?;
-    if !done {
-        return Ok(None);
-    }
-    let after = working.into_frame(alloc)?;
-    Ok(Some(after))
+    let all = padded_frame(alloc, given, subject.code.max_locals)?;
+    *flow = Some(all);
+    Ok(true)
 }
 
 /// Whether there is room for a frame, for what the instruction leaves, and for what it stores.
@@ -124,88 +80,104 @@ fn keeps_room(code: &Code, site: &Site<'_>, frame: &Frame, after: &Frame) -> boo
 
 /// The first rule that is broken, of those on a frame and what the instruction leaves of it.
 fn late_break<G: Goes>(
-    alloc: Global,
     goes: &G,
     subject: &Subject<'_>,
     site: &Site<'_>,
     frame: &Frame,
     after: &Frame,
-) -> Result<Option<Rule>, AllocError>
+) -> Option<Rule>
     requires ready { IsReady subject.now }
+    requires landings { HasLandings (G.relation goes.now) subject.now }
     ensures broken { (flow : Option tags.Working) (rest : Instructions)
         → AreTold (view_code subject.now.code.now) flow rest site.now.fits site.now.is_last
         → working_of after.now ≡ effect (view_code subject.now.code.now) site.now.pc (work (view_code subject.now.code.now) (view_instruction site.now.instruction.now)) (working_of frame.now)
-        → IfOk result (IsBroken (FrameKeeps (G.relation goes.now) (G.known goes.now) (view_code subject.now.code.now) (record { flow = flow; pc = site.now.pc; instruction = view_instruction site.now.instruction.now; rest = rest }) (working_of frame.now)) late_rules) }
+        → IsBroken (FrameKeeps (G.relation goes.now) (G.known goes.now) (view_code subject.now.code.now) (record { flow = flow; pc = site.now.pc; instruction = view_instruction site.now.instruction.now; rest = rest }) (working_of frame.now)) late_rules result }
 {
     if !keeps_room(subject.code, site, frame, after) {
-        return Ok(Some(Rule::Room));
+        return Some(Rule::Room);
     }
     if !jumps(goes, subject, site.instruction, after) {
-        return Ok(Some(Rule::Target));
+        return Some(Rule::Target);
     }
-    let taken = handlers_take(alloc, goes, subject, site.pc, frame)?;
-    if !taken {
-        return Ok(Some(Rule::Handler));
+    if !handlers_take(goes, subject, site.pc, frame) {
+        return Some(Rule::Handler);
     }
     if site.is_last && falls(site.instruction) {
-        return Ok(Some(Rule::Past));
+        return Some(Rule::Past);
     }
-    Ok(None)
+    None
 }
 
-/// What is found of an instruction with its frame.
+/// The first rule that an instruction breaks with its frame. Where it breaks none, the frame is put behind the others, and
+/// what flows on is told.
 fn check_frame<G: Goes>(
     alloc: Global,
     goes: &G,
     subject: &Subject<'_>,
     site: &Site<'_>,
     frame: Frame,
-) -> Result<Checked, AllocError>
+    frames: &mut Items<Frame>,
+    behind: &mut Option<Frame>,
+) -> Result<Option<Rule>, AllocError>
     requires ready { IsReady subject.now }
+    requires landings { HasLandings (G.relation goes.now) subject.now }
+    requires none { behind.old ≡ None }
     ensures checked { (flow : Option tags.Working) (rest : Instructions)
         → AreTold (view_code subject.now.code.now) flow rest site.now.fits site.now.is_last
-        → IfOk result (IsFrameChecked (G.relation goes.now) (G.known goes.now) (view_code subject.now.code.now) (record { flow = flow; pc = site.now.pc; instruction = view_instruction site.now.instruction.now; rest = rest }) (working_of frame)) }
+        → IfOk result (IsFrameChecked (G.relation goes.now) (G.known goes.now) (view_code subject.now.code.now) (record { flow = flow; pc = site.now.pc; instruction = view_instruction site.now.instruction.now; rest = rest }) (working_of frame) frames.old frames.new behind.new) }
 {
-    let Some(after) = behind(alloc, goes, subject, site, &frame)? else {
-        return Ok(Checked::Breaks(Rule::Operands));
-    };
-    if let Some(rule) = late_break(alloc, goes, subject, site, &frame, &after)? {
-        return Ok(Checked::Breaks(rule));
+    let mut working = Working::from_frame(alloc, &frame)?;
+    if !apply(
+        alloc,
+        goes,
+        subject.known,
+        subject.code,
+        site.pc,
+        site.instruction,
+        &mut working,
+    )? {
+        return Ok(Some(Rule::Operands));
     }
-    let behind = if falls(site.instruction) {
-        Some(after)
-    } else {
-        None
-    };
-    Ok(Checked::Kept { frame, behind })
+    let after = working.into_frame(alloc)?;
+    if let Some(rule) = late_break(goes, subject, site, &frame, &after) {
+        return Ok(Some(rule));
+    }
+    frames.push(frame)?;
+    if falls(site.instruction) {
+        *behind = Some(after);
+    }
+    Ok(None)
 }
 
-/// What is found at a place.
+/// The first rule that is broken at a place, by what flows in. Where none is, its frame is put behind the others, and what
+/// flows on stands where that did.
 pub fn check_place<G: Goes>(
     alloc: Global,
     goes: &G,
     subject: &Subject<'_>,
     at: &(u32, Instruction),
     is_last: bool,
-    flow: Option<Frame>,
-) -> Result<Checked, AllocError>
+    frames: &mut Items<Frame>,
+    flow: &mut Option<Frame>,
+) -> Result<Option<Rule>, AllocError>
     requires ready { IsReady subject.now }
+    requires landings { HasLandings (G.relation goes.now) subject.now }
     ensures checked { (rest : Instructions) → (IsTrue is_last ↔ (rest ≡ []))
-        → IfOk result (IsChecked (G.relation goes.now) (G.known goes.now) (view_code subject.now.code.now) (record { flow = flow_of flow; pc = at.now.0; instruction = view_instruction at.now.1; rest = rest })) }
+        → IfOk result (IsChecked (G.relation goes.now) (G.known goes.now) (view_code subject.now.code.now) (record { flow = flow_of flow.old; pc = at.now.0; instruction = view_instruction at.now.1; rest = rest }) frames.old frames.new flow.new) }
 {
-    let fits = flow_fits(subject.code, &flow);
+    let fits = flow_fits(subject.code, flow);
     let site = Site {
         pc: at.0,
         instruction: &at.1,
         is_last,
         fits,
     };
-    let placed = place_frame(alloc, goes, subject, at.0, flow)?;
-    match placed {
-        Placed::Wrong(rule) => Ok(Checked::Breaks(rule)),
-        Placed::At(frame) => {
-            let checked = check_frame(alloc, goes, subject, &site, frame)?;
-            Ok(checked)
-        }
+    if !place_frame(alloc, goes, subject, at.0, flow)? {
+        return Ok(Some(Rule::Into));
     }
+    let Some(frame) = flow.take() else {
+        return Ok(Some(Rule::NoFrame));
+    };
+    let broken = check_frame(alloc, goes, subject, &site, frame, frames, flow)?;
+    Ok(broken)
 }

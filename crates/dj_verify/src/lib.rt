@@ -5,6 +5,7 @@
 
 mod checking;
 mod fault;
+mod landing;
 mod padding;
 mod reaching;
 mod rooms;

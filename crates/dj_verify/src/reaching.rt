@@ -1,21 +1,16 @@
 //! Where control may go from an instruction, and whether a frame goes there (JVMS 4.10.1.6, 4.10.1.9).
 
-ghost use Rattle.std.specs.Prelude.{◌≡◌, ◌↔◌, [], ◌∷◌, All, IsTrue, IfOk, map};
+ghost use Rattle.std.specs.Prelude.{◌≡◌, ◌↔◌, All, IsTrue, map};
 ghost use Rattle.dj_instructions.specs.Instructions.{view_instruction};
-ghost use Rattle.dj_frames.specs.Frames.{view_tag};
 ghost use Rattle.dj_code.specs.MethodCode.{view_code};
 ghost use Rattle.dj_code.specs.Targets.{targets_of};
-ghost use Rattle.dj_effects.specs.Rows.{object};
-ghost use Rattle.dj_verify.specs.Rules.{falls, Reaches, caught_class, HandlerTakes, Covers};
+ghost use Rattle.dj_verify.specs.Rules.{falls, Reaches};
 ghost use Rattle.dj_verify.specs.Checking.{working_of, IsReady};
 
 use crate::subject::Subject;
-use dj_code::Handler;
-use dj_frames::{Frame, Slots, Tag};
+use dj_frames::Frame;
 use dj_instructions::{Instruction, is_start};
-use dj_names::{ClassName, JType};
-use dj_tags::{Goes, frame_goes, local_goes};
-use std::alloc::{AllocError, Global};
+use dj_tags::{Goes, frame_goes};
 
 /// Whether an instruction begins at a pc whose given frame takes this one.
 fn reaches<G: Goes>(goes: &G, subject: &Subject<'_>, frame: &Frame, pc: u32) -> bool
@@ -185,76 +180,4 @@ pub fn falls(instruction: &Instruction) -> bool
         | Instruction::MonitorEnter
         | Instruction::MonitorExit => true,
     }
-}
-
-/// A reference of the class that a handler takes.
-fn caught(
-    alloc: Global,
-    subject: &Subject<'_>,
-    class: &Option<ClassName>,
-) -> Result<Tag, AllocError>
-    requires ready { IsReady subject.now }
-    ensures caught { IfOk result (λ tag. view_tag tag ≡ object (caught_class class.now)) }
-{
-    match class {
-        Some(class) => Ok(Tag::Object(JType::Class(class.copy(alloc)?))),
-        None => {
-            let tag = subject.known.classes.throwable.copy(alloc)?;
-            Ok(tag)
-        }
-    }
-}
-
-/// The frame with nothing on the stack but this.
-fn thrown(alloc: Global, frame: &Frame, caught: Tag) -> Result<Frame, AllocError>
-    ensures thrown { IfOk result (λ thrown. working_of thrown ≡ (record { locals = (working_of frame.now).locals; stack = view_tag caught ∷ []; unborn_this = (working_of frame.now).unborn_this })) }
-{
-    let mut stack = Slots::new();
-    stack.push(alloc, caught)?;
-    Ok(Frame {
-        locals: frame.locals.copy(alloc)?,
-        stack,
-        unborn_this: frame.unborn_this,
-    })
-}
-
-/// Whether what may be thrown in a frame goes to the handler.
-fn handler_takes<G: Goes>(
-    alloc: Global,
-    goes: &G,
-    subject: &Subject<'_>,
-    frame: &Frame,
-    handler: &Handler,
-) -> Result<bool, AllocError>
-    requires ready { IsReady subject.now }
-    ensures takes { IfOk result (λ takes. IsTrue takes ↔ HandlerTakes (G.relation goes.now) (view_code subject.now.code.now) (working_of frame.now) handler.now) }
-{
-    let tag = caught(alloc, subject, &handler.class)?;
-    if subject.code.max_stack < 1 || !local_goes(goes, &tag, &subject.known.classes.throwable) {
-        return Ok(false);
-    }
-    let thrown = thrown(alloc, frame, tag)?;
-    Ok(reaches(goes, subject, &thrown, handler.target))
-}
-
-/// Whether each handler that spans a pc takes what may be thrown there.
-pub fn handlers_take<G: Goes>(
-    alloc: Global,
-    goes: &G,
-    subject: &Subject<'_>,
-    pc: u32,
-    frame: &Frame,
-) -> Result<bool, AllocError>
-    requires ready { IsReady subject.now }
-    ensures take { IfOk result (λ take. IsTrue take ↔ All (λ handler. Covers handler pc → HandlerTakes (G.relation goes.now) (view_code subject.now.code.now) (working_of frame.now) handler) subject.now.code.now.handlers) }
-{
-    for handler in subject.code.handlers.as_slice() {
-        if handler.start <= pc
-            && pc < handler.end
-            && !handler_takes(alloc, goes, subject, frame, handler)?
-        {
-            return Ok(false);
-        }
-    }
-    Ok(true)
 }

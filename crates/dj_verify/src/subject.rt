@@ -8,6 +8,7 @@ ghost use Rattle.dj_effects.specs.Doing.{IsKnown};
 ghost use Rattle.dj_verify.specs.Rules.{frame_in};
 ghost use Rattle.dj_verify.specs.Checking.{ArePlacesFrom, IsReady};
 
+use crate::landing::Landing;
 use dj_code::Code;
 use dj_effects::Known;
 use dj_frames::Frame;
@@ -20,6 +21,8 @@ pub struct Subject<'a> {
     pub code: &'a Code,
     pub known: &'a Known,
     pub places: BTreeMap<u32, usize>,
+    /// What is the same of each handler wherever it is thrown to.
+    pub landings: Vec<Landing<'a>>,
 }
 
 /// The place of the first frame at each pc.
@@ -36,7 +39,7 @@ fn first_places(alloc: Global, frames: &[(u32, Frame)]) -> Result<BTreeMap<u32, 
 }
 
 impl<'a> Subject<'a> {
-    /// Code to be checked.
+    /// Code to be checked, for which no landings are found yet.
     pub fn new(alloc: Global, known: &'a Known, code: &'a Code) -> Result<Subject<'a>, AllocError>
         requires known { IsKnown known.now }
         requires rising { IsRising (view_instructions code.now.instructions) }
@@ -48,6 +51,7 @@ impl<'a> Subject<'a> {
             code,
             known,
             places,
+            landings: Vec::new(alloc),
         })
     }
 

@@ -10,9 +10,11 @@ ghost use Rattle.dj_verify.specs.Rules.{entry};
 ghost use Rattle.dj_verify.specs.Table.{IsFrameTable};
 ghost use Rattle.dj_verify.specs.Verified.{IsTyped, IsVerifyFault};
 ghost use Rattle.dj_verify.specs.Checking.{working_of, IsReady};
+ghost use Rattle.dj_verify.specs.Landings.{HasLandings};
 
-use crate::checking::{Checked, check_place};
+use crate::checking::check_place;
 use crate::fault::VerifyFault;
+use crate::landing::landings;
 use crate::padding::entry;
 use crate::subject::Subject;
 use dj_code::{Code, Typed};
@@ -32,22 +34,19 @@ fn check_all<G: Goes>(
     first: Frame,
 ) -> Result<Items<Frame>, VerifyFault>
     requires ready { IsReady subject.now }
+    requires landings { HasLandings (G.relation goes.now) subject.now }
     requires entry { working_of first ≡ entry (view_code subject.now.code.now) }
     ensures table { IfOk result (λ frames. IsFrameTable (G.relation goes.now) (G.known goes.now) (view_code subject.now.code.now) (map view_frame frames)) }
     ensures unverified { IfErr result (IsVerifyFault (G.relation goes.now) (G.known goes.now) (view_code subject.now.code.now)) }
 {
-    let mut frames = Items::new(alloc);
-    let mut flow = Some(first);
     let count = subject.code.instructions.len();
+    let mut frames = Items::from_vec(Vec::with_capacity(alloc, count)?);
+    let mut flow = Some(first);
     for (i, at) in subject.code.instructions.as_slice().iter().enumerate() {
         let is_last = i + 1 == count;
-        let checked = check_place(alloc, goes, subject, at, is_last, flow)?;
-        match checked {
-            Checked::Breaks(rule) => return Err(VerifyFault::Unverified { pc: at.0, rule }),
-            Checked::Kept { frame, behind } => {
-                frames.push(frame)?;
-                flow = behind;
-            }
+        let broken = check_place(alloc, goes, subject, at, is_last, &mut frames, &mut flow)?;
+        if let Some(rule) = broken {
+            return Err(VerifyFault::Unverified { pc: at.0, rule });
         }
     }
     Ok(frames)
@@ -60,6 +59,7 @@ fn frames_by<G: Goes>(
     subject: &Subject<'_>,
 ) -> Result<Items<Frame>, VerifyFault>
     requires ready { IsReady subject.now }
+    requires landings { HasLandings (G.relation goes.now) subject.now }
     ensures table { IfOk result (λ frames. IsFrameTable (G.relation goes.now) (G.known goes.now) (view_code subject.now.code.now) (map view_frame frames)) }
     ensures unverified { IfErr result (IsVerifyFault (G.relation goes.now) (G.known goes.now) (view_code subject.now.code.now)) }
 {
@@ -79,7 +79,8 @@ pub fn frames_of<G: Goes>(
     ensures table { IfOk result (λ frames. IsFrameTable (G.relation goes.now) (G.known goes.now) (view_code code.now) (map view_frame frames)) }
     ensures unverified { IfErr result (IsVerifyFault (G.relation goes.now) (G.known goes.now) (view_code code.now)) }
 {
-    let subject = Subject::new(alloc, known, code)?;
+    let mut subject = Subject::new(alloc, known, code)?;
+    subject.landings = landings(alloc, goes, &subject)?;
     frames_by(alloc, goes, &subject)
 }
 

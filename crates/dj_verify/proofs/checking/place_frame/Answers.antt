@@ -10,15 +10,15 @@ returns-then-not-flows_into g c =
     let R = g.G.Goes.relation c.args.goes.now in
     let K = g.G.Goes.known c.args.goes.now in
     let code = view_code c.args.subject.now.code.now in
-    record { placed = λ instruction rest. into_broken R K code c.args.pc instruction rest (view_frame c.in-Some.given.now) c.in-Some.ensures.first (flow_of c.args.flow) (λ goes. false≢true (c.if-not-flows_into.ensures.into.1 goes)) }
+    record { placed = λ instruction rest. into_broken R K code c.args.pc instruction rest (view_frame c.in-Some.given.now) c.in-Some.ensures.first (flow_of c.args.flow.now) (λ goes. false≢true (c.if-not-flows_into.ensures.into.1 goes)) }
 
-pub returns-in_ok-all-in-Some : goal.returns-in_ok-all-in-Some
-returns-in_ok-all-in-Some g c =
+pub returns : goal.returns
+returns g c =
     let R = g.G.Goes.relation c.args.goes.now in
     let K = g.G.Goes.known c.args.goes.now in
     let code = view_code c.args.subject.now.code.now in
     record {
       placed = λ instruction rest.
-          let s = given_stands R K code c.args.pc instruction rest (view_frame c.in-Some.given.now) c.in-Some.ensures.first (flow_of c.args.flow) (working_of c.in_ok-all-in-Some.all) (c.flows_into.ensures.into.0 c.if-not-flows_into.false) c.in_ok-all-in-Some.ensures.padded in
-          (s.frame_is, s.some, s.into);
+          let s = given_stands R K code c.args.pc instruction rest (view_frame c.in-Some.given.now) c.in-Some.ensures.first (flow_of c.args.flow.now) (working_of c.in_ok-all.all) (c.flows_into.ensures.into.0 c.if-not-flows_into.false) c.in_ok-all.ensures.padded in
+          (s.frame_is, s.into);
     }

@@ -1,24 +1,22 @@
-use Rattle.std.proofs.Common.{◌≡◌, ◌+◌, ◌<◌, ◌∙◌, get_or, length, subst, sym, ap, arith}
+use Rattle.std.proofs.Common.{◌≡◌, ◌<◌, ◌∙◌, get_or, length, subst, sym, ap, arith}
 use Rattle.std.proofs.lemmas.List.{length-map}
 use Rattle.dj_instructions.specs.Instructions.{view_instruction, view_instructions}
 use Rattle.dj_code.specs.MethodCode.{view_code}
 use Rattle.dj_code.proofs.TargetLists.{viewed, viewed_at}
-use Rattle.dj_verify.specs.Checking.{flow_of}
-use Rattle.dj_verify.proofs.PlaceSteps.{IsBegun, workings, loop_more, loop_breaks}
+use Rattle.dj_verify.proofs.PlaceSteps.{loop_more, loop_breaks}
 use Rattle.dj_verify.proofs.verifying.check_all.Goals as goal
 
-pub returns-in-Breaks : goal.returns-in-Breaks
-returns-in-Breaks g c =
+pub returns-in-Some-clause-unverified : goal.returns-in-Some-clause-unverified
+returns-in-Some-clause-unverified g c =
+    let R = g.G.Goes.relation c.args.goes.now in
+    let K = g.G.Goes.known c.args.goes.now in
+    let code = view_code c.args.subject.now.code.now in
     let xs = c.args.subject.now.code.now.instructions in
     let at = c.at-item.result in
     let long = length-map xs viewed in
     let in_code : c.loop-i.i < length xs = subst (λ list. c.loop-i.i < length list) c.as_slice-at-items.ensures c.loop-i-test.true in
     let is : at ≡ get_or xs c.loop-i.i at = subst (λ list. at ≡ get_or list c.loop-i.i at) c.as_slice-at-items.ensures c.at-item.is in
-    record {
-      table = tt;
-      unverified =
-          loop_breaks (g.G.Goes.relation c.args.goes.now) (g.G.Goes.known c.args.goes.now) (view_code c.args.subject.now.code.now) c.loop-i.i (at.0, view_instruction at.1) (viewed_at xs c.loop-i.i at in_code is) c.loop-i.frames c.loop-i.flow c.loop-i.invariant (omega (arith, in_code, long)) c.len-count.result (c.len-count.ensures ∙ sym long) c.in_ok-checked.checked c.in_ok-checked.ensures.checked c.in-Breaks.rule c.in-Breaks.is;
-    }
+    loop_breaks R K code c.loop-i.i (at.0, view_instruction at.1) (viewed_at xs c.loop-i.i at in_code is) c.loop-i.frames c.loop-i.flow c.loop-i.invariant (omega (arith, in_code, long)) c.len-count.result (c.len-count.ensures ∙ sym long) c.check_place.new.frames c.check_place.new.flow c.in_ok-broken.broken c.in_ok-broken.ensures.checked c.in-Some.rule c.in-Some.is
 
 pub loop-i-preserved : goal.loop-i-preserved
 loop-i-preserved g c =
@@ -30,8 +28,7 @@ loop-i-preserved g c =
     let long = length-map xs viewed in
     let in_code : c.loop-i.i < length xs = subst (λ list. c.loop-i.i < length list) c.as_slice-at-items.ensures c.loop-i-test.true in
     let is : at ≡ get_or xs c.loop-i.i at = subst (λ list. at ≡ get_or list c.loop-i.i at) c.as_slice-at-items.ensures c.at-item.is in
-    let more = loop_more R K code c.loop-i.i (at.0, view_instruction at.1) (viewed_at xs c.loop-i.i at in_code is) c.loop-i.frames c.loop-i.flow c.loop-i.invariant (omega (arith, in_code, long)) c.len-count.result (c.len-count.ensures ∙ sym long) c.in_ok-checked.checked c.in_ok-checked.ensures.checked c.in-Kept.frame c.in-Kept.behind c.in-Kept.is in
-    subst (λ frames. IsBegun R K code (c.loop-i.i + 1) (workings frames) (flow_of c.in-Kept.behind)) (sym c.in_ok-push-in-Kept.ensures.ok) more
+    loop_more R K code c.loop-i.i (at.0, view_instruction at.1) (viewed_at xs c.loop-i.i at in_code is) c.loop-i.frames c.loop-i.flow c.loop-i.invariant (omega (arith, in_code, long)) c.len-count.result (c.len-count.ensures ∙ sym long) c.check_place.new.frames c.check_place.new.flow c.in_ok-broken.broken c.in_ok-broken.ensures.checked c.in_default.is
 
 pub returns : goal.returns
 returns g c =

@@ -1,6 +1,6 @@
 use Rattle.dj_code.specs.MethodCode.{view_code}
-use Rattle.dj_verify.specs.Checking.{flow_of}
-use Rattle.dj_verify.proofs.PlaceSteps.{IsBegun, workings}
+use Rattle.dj_verify.specs.Checking.{flow_of, workings}
+use Rattle.dj_verify.proofs.PlaceSteps.{IsBegun}
 use Rattle.dj_verify.proofs.verifying.check_all.Given as goal
 
 abbrev pub invariant-loop-i : goal.invariant-loop-i
