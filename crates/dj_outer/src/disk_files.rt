@@ -10,7 +10,7 @@ use std::marker::Model;
 use std::{fs, rt};
 
 /// How many bytes one read asks for at most.
-const BUFFER: usize = 65536;
+const BUFFER: usize = 16384;
 
 /// The files of a runtime. A load ends at the first error of the system, which counts as a fault:
 /// where the file is missing or a directory, and where a call is interrupted, too. Contracts see it
