@@ -2,7 +2,7 @@
 use Rattle.std.proofs.Common.{refl, ◌++◌, [], append-nil, Some, None, ◌≡◌, ◌∙◌, ap, ℕ, List, length, map, Option, Result, Ok, Err, OnErr, String, sym, subst, inl, inr}
 use Rattle.std.specs.declared.alloc.Global.{Global}
 use Rattle.std.proofs.lemmas.List.{length-map}
-use Rattle.std.specs.Prelude.{true, ⊤}
+use Rattle.std.specs.Prelude.{true, ⊤, Vec}
 use Rattle.std.specs.declared.alloc.AllocError.{AllocError}
 use Rattle.dj_words.specs.declared.order.UsageKind.{UsageKind}
 use Rattle.dj_report.specs.declared.status.Status.{Status}
@@ -27,11 +27,15 @@ pub ends-report : (ended status : Status) (put cut R : Type 0) → OnReportFault
 ends-report ended status put cut R at_status of_cut (inl ends) = subst (λ s. OnReportFault (Ok s) R) (sym ends.0) at_status
 ends-report ended status put cut R at_status of_cut (inr ends) = subst (λ s. OnReportFault (Ok s) R) (sym ends.0) (of_cut ends.1)
 
+-- as many contents were loaded as there are names
+as_many_contents : (contents : List (Vec ℕ Global)) (names : List (String Global)) → length contents ≡ length names → length (contents_of contents) ≡ length (map string_bytes names)
+as_many_contents contents names same = length-map contents (λ (bytes : Vec ℕ Global). bytes.items) ∙ same ∙ sym (length-map names string_bytes)
+
 -- so much was told of the files of an order, which were loaded and read
-pub of_files : {held : Option Files} {named : List (List ℕ)} {list : Option (List ℕ)} {asked_old asked_new : Option (List (List ℕ))} (order : OrderFiles) (found : FoundFiles) (world : WorldOf) (Told : Source → Finds → WorldOf → Type 0)
-    → AreLoaded held named list asked_old asked_new order → option_map string_bytes found.unread ≡ option_map string_bytes order.library.unread → map string_bytes found.paths.items ≡ paths_of order.library
-    → MakesWorld (contents_of order.named.items) (contents_of order.library.contents.items) (finds_of found) world → Told (loaded_source named) (finds_of found) world → OfFiles held named list Told
-of_files order found world Told loaded unread paths makes told = record {
+pub of_files : {held : Option Files} {list : Option (List ℕ)} {asked_old asked_new : Option (List (List ℕ))} (names : List (String Global)) (order : OrderFiles) (found : FoundFiles) (world : WorldOf) (Told : Source → Finds → WorldOf → Type 0)
+    → AreLoaded held (map string_bytes names) list asked_old asked_new order → length order.named.items ≡ length names → length order.library.contents.items ≡ length order.library.paths.items → option_map string_bytes found.unread ≡ option_map string_bytes order.library.unread → map string_bytes found.paths.items ≡ paths_of order.library
+    → MakesWorld (contents_of order.named.items) (contents_of order.library.contents.items) (finds_of found) world → Told (loaded_source (map string_bytes names)) (finds_of found) world → OfFiles held (map string_bytes names) list Told
+of_files names order found world Told loaded number library unread paths makes told = record {
   found = finds_of found;
   world = world;
   setting = record {
@@ -39,6 +43,8 @@ of_files order found world Told loaded unread paths makes told = record {
     contents = contents_of order.named.items;
     listed = loaded.listed;
     library = contents_of order.library.contents.items;
+    each_named = as_many_contents order.named.items names number;
+    each_listed = as_many_contents order.library.contents.items order.library.paths.items library ∙ ap length (sym paths);
     are = rw paths loaded.are;
     lists = rw (unread, paths) loaded.lists;
     makes = makes;

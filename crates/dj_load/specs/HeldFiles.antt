@@ -138,12 +138,14 @@ IsList None (Some bytes) unread paths = ⊥
 IsList (Some list) None unread paths = ⊥
 IsList (Some list) (Some bytes) unread paths = (unread ≡ (if is_utf8 bytes then None else Some list)) × (paths ≡ listed_by bytes)
 
--- each file of an order was loaded and is what was found, and this is their world; where the files don't tell what they hold, it is that of some contents
+-- each file of an order was loaded and is what was found, and this is their world; where the files don't tell what they hold, it is that of some contents, as many as there are names
 pub record Setting (held : Option Files) (named : List (List ℕ)) (list : Option (List ℕ)) (found : Finds) (world : WorldOf) : Type 0 where
   pub few : length (named ++ (option_to_list list ++ found.paths)) ≤ most_files
   pub contents : List (List ℕ)
   pub listed : Option (List ℕ)
   pub library : List (List ℕ)
+  pub each_named : length contents ≡ length named
+  pub each_listed : length library ≡ length found.paths
   pub are : IfSome held (λ files. AreContents files (named ++ (option_to_list list ++ found.paths)) (contents ++ (option_to_list listed ++ library)))
   pub lists : IsList list listed found.unread found.paths
   pub makes : MakesWorld contents library found world
