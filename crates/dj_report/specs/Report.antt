@@ -31,7 +31,6 @@ use Rattle.dj_words.specs.declared.order.UsageKind.TheVariants as kind
 -- by its path, with how, on a list of library files that isn't UTF-8 by its path, on the words, and on a file by
 -- its place
 pub data Line : Type 0 where
-  NotYetClass : List ℕ → Line
   NotYetMethod : List ℕ → List ℕ → Descriptor → ℕ → Line
   BadMethod : List ℕ → List ℕ → Descriptor → BadKind → ℕ → Line
   UnverifiedMethod : List ℕ → List ℕ → Descriptor → Rule → ℕ → Line
@@ -157,7 +156,6 @@ refused_method_tail (cause.Large size) = numbered_tail (codes "Large") size
 
 -- a line with its end
 abbrev pub line_text : Line → List ℕ
-line_text (NotYetClass class) = show_units class ++ codes " notyet" ++ 10 ∷ []
 line_text (NotYetMethod class name descriptor pc) = shown_method class name descriptor ++ not_yet_tail pc
 line_text (BadMethod class name descriptor kind pc) = shown_method class name descriptor ++ bad_tail kind pc
 line_text (UnverifiedMethod class name descriptor broken pc) = shown_method class name descriptor ++ unverified_tail broken pc

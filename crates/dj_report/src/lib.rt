@@ -17,7 +17,7 @@ pub use refused::{
     refused_method_tail,
 };
 pub use report::{
-    bad_tail, broken_line, clash_line, list_line, much_line, not_yet_tail, put_class_line,
-    put_method_line, read_line, unverified_tail, usage_line,
+    bad_tail, broken_line, clash_line, list_line, much_line, not_yet_tail, put_method_line,
+    read_line, unverified_tail, usage_line,
 };
 pub use status::Status;

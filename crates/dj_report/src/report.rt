@@ -1,4 +1,4 @@
-//! The lines of the report: those that are made whole, and those on classes and methods, which take no memory: one on a method that isn't long is put in one piece, and each other line piece by piece.
+//! The lines of the report: those that are made whole, and those on methods, which take no memory: one that isn't long is put in one piece, and each other one piece by piece.
 
 ghost use Rattle.std.specs.Prelude.{◌≡◌, ◌++◌, IfOk, string_bytes};
 ghost use Rattle.dj_names.specs.Types.{view_descriptor};
@@ -87,14 +87,6 @@ pub fn list_line(alloc: Global, path: &str) -> Result<Vec<u8>, AllocError>
 {
     let path = path_units(alloc, path)?;
     Ok(format!(in alloc; "{path} list\n")?.into_bytes())
-}
-
-/// Puts the line on a class of which nothing is printed yet.
-pub fn put_class_line<P: Sink>(report: &mut P, class: &ClassName) -> Result<(), Failed>
-    ensures puts { Puts result (P.taken report.old) (P.taken report.new) (P.faults report.old) (P.faults report.new) (line_text (Line.NotYetClass class.now)) }
-{
-    put_units(report, class.as_slice())?;
-    put_piece(report, b" notyet\n")
 }
 
 /// The end of the line on a method that isn't straight at this offset of its code.
@@ -210,7 +202,7 @@ pub fn read_line(alloc: Global, place: u32) -> Result<Vec<u8>, AllocError>
     Ok(format!(in alloc; "read {place}\n")?.into_bytes())
 }
 
-/// The line on a file that is too large, by its place.
+/// The line on a run that has too much to load, by the place of what is too much.
 pub fn much_line(alloc: Global, place: u32) -> Result<Vec<u8>, AllocError>
     ensures line { IfOk result (λ line. line.items ≡ line_text (Line.Much place)) }
 {

@@ -18,7 +18,7 @@ pub enum Status {
     TextFault,
     /// The report couldn't be written.
     ReportFault,
-    /// A file is too large.
+    /// There is too much to load: a file, all of them together, or names.
     TooMuch(u32),
 }
 
