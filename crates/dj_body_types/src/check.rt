@@ -16,7 +16,7 @@ use dj_checked::{Site, Walk, may_name};
 use dj_faults::BodyFault;
 use dj_headers::Headers;
 use dj_members::MemberTable;
-use dj_names::{ClassName, Items, Units, is_constructor};
+use dj_names::{ClassName, Items, is_constructor};
 use dj_places::TypeKind;
 use dj_reach::Jump;
 use dj_scopes::parameters_in;

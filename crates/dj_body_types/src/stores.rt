@@ -10,7 +10,7 @@ ghost use Rattle.dj_typed.specs.Stores as spec;
 ghost use Rattle.dj_checked.specs.Sites.{site_of};
 
 use crate::labels::both;
-use dj_checked::{Site, copied, is_typed, plain, selected_type, static_type};
+use dj_checked::{Site, is_typed, plain, selected_type, static_type};
 use dj_names::{ClassName, Field, JType, StaticType, Units};
 use dj_static::{own_field, sole_owner};
 use std::alloc::{AllocError, Global};

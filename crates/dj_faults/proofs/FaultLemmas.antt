@@ -27,9 +27,6 @@ rank_small kinds.Label = omega arith
 abbrev order : Fault → ℕ
 order fault = 10 * fault.place + rank fault.kind
 
-abbrev IsLess : Fault → Fault → Type 0
-IsLess first second = (first.place < second.place) ⊎ ((first.place ≡ second.place) × (rank first.kind < rank second.kind))
-
 less_so : (a b r s : ℕ) → r < 10 → (a < b) ⊎ ((a ≡ b) × (r < s)) → 10 * a + r < 10 * b + s
 less_so a b r s small (inl below) = omega (arith, below, small)
 less_so a b r s small (inr same) = omega (arith, same.0, same.1)

@@ -99,10 +99,6 @@ case_piece depth (Some number) =
     (keyword_then (codes "case") (int_items number ++ sign (codes ":") ∷ []) (int_words number ++ codes ":" ∷ []) (refl, (refl, (refl, (refl, tt))))
     (and_then (int_items number) (sign (codes ":") ∷ []) (int_words number) (codes ":" ∷ []) (int_is_spelled number) (λ text ends. refl) (λ text ends. refl)))
 
-case_apart : (depth : ℕ) (label : Option ℤ) → IsApart (case_items depth label)
-case_apart depth None text ends = refl
-case_apart depth (Some number) text ends = refl
-
 cases_apart : (depth : ℕ) (labels : List (Option ℤ)) (more : List Item) → IsApart more → IsApart (flat_map (case_items depth) labels ++ more)
 cases_apart depth [] more apart = apart
 cases_apart depth (None ∷ rest) more apart = λ text ends. refl

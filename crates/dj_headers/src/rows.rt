@@ -4,7 +4,7 @@ ghost use Rattle.std.specs.Prelude.{◌≡◌, ◌↔◌, ◌⊎◌, ℕ, ◌<�
 ghost use Rattle.dj_headers.specs.Rows.{IsSet, row_at, Opens, IsOpened, HasRoom};
 
 use dj_names::Items;
-use std::alloc::{AllocError, Global};
+use std::alloc::AllocError;
 
 /// Whether the bit at this place is set.
 pub fn is_set(row: &[u64], at: usize) -> bool

@@ -169,18 +169,6 @@ module _ (headers : List Header) where
     no_array : IsArrayValue element Null
     an_array : {reference : RefValue} (own : JType) → reference.class ≡ Array own → Elements headers own element → IsArrayValue element (Ref reference)
 
-  length_class : (class : JType) (length : ℕ) → IsLengthOf class length → IsReference class
-  length_class (Class name) length is = tt
-  length_class (Array element) length is = tt
-  length_class Boolean length is = is
-  length_class Byte length is = is
-  length_class Char length is = is
-  length_class Short length is = is
-  length_class types.Int length is = is
-  length_class types.Long length is = is
-  length_class Float length is = is
-  length_class Double length is = is
-
   pub array_value : (element : JType) (value : Value) → IsHeld headers (Array element) value → IsArrayValue element value
   array_value element (Int number) held = absurd (false≢true held)
   array_value element (Long number) held = absurd cc

@@ -74,9 +74,6 @@ module _ (world : List Header) where
   and_alike : {first other : Option StaticType} {rest others : Option (List StaticType)} → Alike world first other → AllAlike world rest others → AllAlike world (and_type first rest) (and_type other others)
   and_alike one more = record { types = one.type ∷ more.types; found = λ i. and_type (one.found i) (more.found i); also = λ i. and_type (one.also i) (more.also i); whole = (one.whole, more.whole) }
 
-  plain_alike : {found : Option JType} → IsPlain world found → Alike world (typed found) (typed found)
-  plain_alike p = record { type = Of p.0; found = ap typed p.1; also = ap typed p.1; whole = p.2 }
-
   may_name_whole : (site : Site) (type : JType) → may_name_type site type ≡ true → is_whole_type site.headers type ≡ true
   may_name_whole site Boolean may = refl
   may_name_whole site types.Byte may = refl

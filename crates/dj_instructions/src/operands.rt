@@ -12,7 +12,7 @@ ghost use Rattle.dj_instructions.specs.RawInstructions.{form_of, can_be_wide, wi
 ghost use Rattle.dj_instructions.specs.Meanings.{wide};
 ghost use Rattle.dj_instructions.specs.Reads.{HasAnswer};
 
-use crate::form::{Form, form_of};
+use crate::form::form_of;
 use crate::instruction::Instruction;
 use crate::jumps::target;
 use crate::kinds::BadKind;

@@ -15,7 +15,7 @@ use dj_headers::Headers;
 use dj_names::{ClassName, Items, JType, is_constructor};
 use dj_operands::{Reply, all_fitted, parameters_of};
 use dj_outside::Trap;
-use dj_values::{Action, InvokeKind, RefValue, Value};
+use dj_values::{Action, InvokeKind, Value};
 use std::alloc::{AllocError, Global};
 
 /// A call with arguments, which come behind what is there of the receiver.

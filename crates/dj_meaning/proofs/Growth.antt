@@ -35,10 +35,6 @@ grows-kept bound longer less = record {
   holds = λ headers monitor h. grows-holding headers monitor h;
 }
 
--- a run of a statement is below one with a greater bound
-pub grows-run : (context : Context) (scope : Scope) (bound longer : ℕ) → bound ≤ longer → (place : Place) (stm : Stm) → Grows (run context scope bound place stm) (run context scope longer place stm)
-grows-run context scope bound longer less place stm = kept-run (grows-kept bound longer less) context scope place stm (each-stm (λ variable. tt) stm)
-
 -- a run of statements is below one with a greater bound
 pub grows-all : (context : Context) (scope : Scope) (bound longer : ℕ) → bound ≤ longer → (list : Stms) → Grows (run_all context scope bound list) (run_all context scope longer list)
 grows-all context scope bound longer less list = kept-all (grows-kept bound longer less) context scope list (each-stms (λ variable. tt) list)

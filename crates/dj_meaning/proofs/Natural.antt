@@ -179,10 +179,7 @@ module _ (unnamed : Var) (found : Option Value) where
     holds = λ headers monitor h. natural-holding headers monitor h;
   }
 
-  -- a statement that doesn't name the variable
-  pub natural-run : (context : Context) (scope : Scope) (bound : ℕ) (place : Place) (stm : Stm) → EachInStm IsOther stm → Natural (run context scope bound place stm)
-  natural-run context scope bound place stm others = kept-run (natural-kept bound) context scope place stm others
-
+  -- statements that don't name the variable
   pub natural-all : (context : Context) (scope : Scope) (bound : ℕ) (list : Stms) → EachInStms IsOther list → Natural (run_all context scope bound list)
   natural-all context scope bound list others = kept-all (natural-kept bound) context scope list others
 

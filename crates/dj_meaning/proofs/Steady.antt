@@ -154,10 +154,7 @@ steady-kept bound = record {
   holds = λ headers monitor h. steady-holding headers monitor h;
 }
 
--- a statement that completes, or leaves by an exception, gives back the monitors that it has entered
-pub steady-run : (context : Context) (scope : Scope) (bound : ℕ) (place : Place) (stm : Stm) → Steady (run context scope bound place stm)
-steady-run context scope bound place stm = kept-run (steady-kept bound) context scope place stm (each-stm (λ variable. tt) stm)
-
+-- statements that complete, or are left by an exception, give back the monitors that they have entered
 pub steady-all : (context : Context) (scope : Scope) (bound : ℕ) (list : Stms) → Steady (run_all context scope bound list)
 steady-all context scope bound list = kept-all (steady-kept bound) context scope list (each-stms (λ variable. tt) list)
 

@@ -43,12 +43,6 @@ complete_later d r m = record { possible = m.possible; lands = m.lands; reaches 
 
 -- ---- jumps
 
-pub same_jump : (first second : Jump) → is_same_jump first second ≡ true → first ≡ second
-same_jump (jumps.Break l) (jumps.Break k) e = ap jumps.Break (eqb-true l k e)
-same_jump (jumps.Break l) (jumps.Continue k) e = absurd (false≢true e)
-same_jump (jumps.Continue l) (jumps.Break k) e = absurd (false≢true e)
-same_jump (jumps.Continue l) (jumps.Continue k) e = ap jumps.Continue (eqb-true l k e)
-
 pub own_jump : (jump : Jump) → is_same_jump jump jump ≡ true
 own_jump (jumps.Break l) = eq-eqb l l refl
 own_jump (jumps.Continue l) = eq-eqb l l refl

@@ -34,10 +34,6 @@ some_field : (units : Option (List ℕ)) → IsSomeAnd units IsFieldText → (t 
 some_field None is = absurd is
 some_field (Some these) is = (is.type, is.spelled)
 
-some_array : (units : Option (List ℕ)) → IsSomeAnd units IsArrayText → (t : JType) × IsSomeAnd units (λ these. SpellsDescriptor these (Field (Array t)))
-some_array None is = absurd is
-some_array (Some these) is = (is.element, is.spelled)
-
 -- a method's descriptor is no field's
 pub method_is_no_field : (units : Option (List ℕ)) (found : code_descriptor.Descriptor) (parameters : List code.JType) (result : Option code.JType) → found ≡ variants.Method parameters result → IsReadOf units (Some found)
     → IsSomeAnd units IsFieldText → ⊥

@@ -242,9 +242,6 @@ in_turn before between behind middle end first second x y = record {
   fault = lower_then before.fault between.fault behind.fault (first_broken first) (first_broken second) x.fault y.fault;
 }
 
-ends_at : (before behind : Walk) (at place : ℕ) (rules : Rules) → at ≡ place → Passes before behind at rules → Passes before behind place rules
-ends_at before behind at place rules is x = record { place = x.place ∙ ap told is; fault = x.fault }
-
 stepped : (walk : Walk) (place : ℕ) → walk.place ≡ told place → (step walk).place ≡ told (place + 1)
 stepped walk place is = told_later place 1 walk.place is
 

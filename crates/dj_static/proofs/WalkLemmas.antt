@@ -425,9 +425,6 @@ module _ (headers : List Header) (members : List ClassMembers) (class name : Nam
 
       -- ---- a step of the walk
 
-      looked : Walk
-      looked = look headers members class name place before
-
       look_nothing : slice_get headers place ≡ None → look headers members class name place before ≡ before
       look_nothing is = rw is refl
 
@@ -533,9 +530,6 @@ module _ (headers : List Header) (members : List ClassMembers) (class name : Nam
       }
 
   -- ---- paths that are short
-
-  plain_members : List Members
-  plain_members = map view_members members
 
   abbrev owner_of : Name → Option plain.Field
   owner_of = own_field headers (map view_members members) name

@@ -7,7 +7,7 @@ ghost use Rattle.dj_meaning.specs.Members.{is_private, is_of_class};
 ghost use Rattle.dj_meaning.specs.Visible.{is_inherited};
 ghost use Rattle.dj_values.specs.Deciding.{is_interface};
 
-use crate::classes::{header_at, superclass_of};
+use crate::classes::superclass_of;
 use dj_headers::Headers;
 use dj_names::ClassName;
 

@@ -27,10 +27,6 @@ module _ {A B : Type 0} {Is : A → B → Type 0} where
   all_drop (suc n) none = none
   all_drop (suc n) (more is are) = all_drop n are
 
-  pub all_length : {ones : List A} {others : List B} → AllAre Is ones others → length ones ≡ length others
-  all_length none = refl
-  all_length (more is are) = ap suc (all_length are)
-
 and_both : (first second : Bool) → first && second ≡ true → (first ≡ true) × (second ≡ true)
 and_both true true is = (refl, refl)
 and_both true false is = absurd (false≢true is)

@@ -14,7 +14,6 @@ use Rattle.dj_verify.proofs.PaddedFrames.{goes_padded}
 -- the frame is the one at the place, and what flows in goes into it
 pub record Stands (Goes : Assignability) (headers : List Header) (code : Code) (place : Place) (frame : Working) : Type 0 where
   pub frame_is : frame_at code place ≡ Some frame
-  pub some : Keeps Goes headers code place rule.NoFrame
   pub into : Keeps Goes headers code place rule.Into
 
 module _ (Goes : Assignability) (headers : List Header) (code : Code) (pc : ℕ) (instruction : Instruction) (rest : Instructions) where
@@ -37,9 +36,8 @@ module _ (Goes : Assignability) (headers : List Header) (code : Code) (pc : ℕ)
     given_is flow all same = subst (λ o. or_else (all_of o) flow ≡ Some all) is (ap Some (sym same))
 
     pub given_stands : (flow : Option Working) (all : Working) → IfSome flow (λ frame. FrameGoes Goes frame (top_down given)) → all ≡ padded code.max_locals (top_down given) → Stands Goes headers code (place flow) all
-    given_stands None all goes same = record { frame_is = given_is None all same; some = given_some None; into = subst (λ o. IfSome (all_of o) (λ frame. IfSome {T = Working} None (λ flow. FrameGoes Goes flow frame))) is tt }
+    given_stands None all goes same = record { frame_is = given_is None all same; into = subst (λ o. IfSome (all_of o) (λ frame. IfSome {T = Working} None (λ flow. FrameGoes Goes flow frame))) is tt }
     given_stands (Some flow) all goes same = record {
       frame_is = given_is (Some flow) all same;
-      some = given_some (Some flow);
       into = subst (λ o. IfSome (all_of o) (λ frame. FrameGoes Goes flow frame)) is ((goes_padded Goes code.max_locals flow (top_down given)).0 goes);
     }
