@@ -12,6 +12,9 @@ const MOST: usize = 16;
 /// The room that a name of several words is given at first.
 const ROOM: usize = 32;
 
+/// The most units of a name whose room is used again.
+const LONGEST: usize = 64;
+
 /// The last few names that were read, and the room that one of them took and no longer takes.
 #[derive(Drop)]
 pub struct KnownNames {
@@ -56,12 +59,14 @@ impl KnownNames {
     }
 
     /// The units of a name. They take no room of their own where the name is among the last ones; the
-    /// next name is then given the room of this one.
+    /// next name is then given the room of this one, unless that is a long one's.
     pub fn shared(&mut self, alloc: Global, name: Vec<u16>) -> Result<Units, AllocError>
         ensures same { IfOk result (λ shared. shared ≡ name.items) }
     {
         if let Some(units) = equal(alloc, self.names.as_slice(), name.as_slice())? {
-            self.room = Some(name);
+            if name.len() <= LONGEST {
+                self.room = Some(name);
+            }
             return Ok(units);
         }
         let units = Units::from_vec(name)?;

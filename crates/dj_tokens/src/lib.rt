@@ -1,6 +1,6 @@
 //! The words of a text: what each is, and the names, types and literals that words spell.
 //! It stands on `dj_syntax` for the trees of literals, and on `dj_names` for names and types.
-//! The layer above, `dj_grammar`, uses the definitions; a reader of all trees is to use `Reader`, `token_of` and the readers of names, types and literals, each of which is exact.
+//! `dj_grammar` uses the definitions; `dj_depth`, `dj_expressions`, `dj_statements` and `dj_parse` use `Reader`, `token_of`, `KnownNames`, `DottedName` and the readers of names, types and literals, each of which is exact.
 #![tactic(auto)]
 
 mod dotted;
