@@ -42,7 +42,7 @@ is_make (World value) = false
 is_make (Make value) = true
 is_make Raw = false
 
--- the choice is to read raw words
+-- the choice is that bodies stay as they are rebuilt
 abbrev pub is_raw : Choice → Bool
 is_raw (World value) = false
 is_raw (Make value) = false

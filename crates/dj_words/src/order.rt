@@ -14,6 +14,7 @@ use crate::number::number_of;
 use clap::ArgMatches;
 use clap::error::ErrorKind;
 use std::alloc::{AllocError, AllocFailed, Global};
+use thiserror::Error;
 
 /// What is to be done.
 #[derive(Drop)]
@@ -44,9 +45,11 @@ pub enum UsageKind {
 }
 
 /// Why the words give no order.
-#[derive(Drop)]
+#[derive(Debug, Drop, Error)]
 pub enum WordsFault {
+    #[error("usage: {0:?}")]
     Usage(UsageKind),
+    #[error(transparent)]
     Memory(AllocError),
 }
 
