@@ -28,7 +28,7 @@ DescribesPackage class = (class ≡ package_of class ++ codes "package-info") �
 abbrev pub parent_names : ClassOf → List Name
 parent_names class = option_to_list class.super_class ++ class.interfaces
 
--- the first of a class's name and those of its parents that its text can't say
+-- the first that can't stand in its text: the class's own name, of which less is asked, or one of its parents'
 abbrev pub IsFirstUnsaid : WorldOf → ClassOf → Name → Type 0
 IsFirstUnsaid world class name =
     (¬ IsOwnSaid world class.this_class × (name ≡ class.this_class))
@@ -53,7 +53,7 @@ pub record IsFirstUnset (fields : List FieldOf) (name : Name) : Type 0 where
   pub named : name ≡ field.name
 
 -- when each cause holds: an enum (ACC_ENUM, 0x4000); an annotation type (ACC_ANNOTATION, 0x2000); no class of its own;
--- java/lang/Object; a name that can't be said; in an interface (ACC_INTERFACE, 0x0200) a field without a value
+-- java/lang/Object; a name that can't stand in its text; in an interface (ACC_INTERFACE, 0x0200) a field without such a constant
 abbrev pub HasClassCause : WorldOf → ClassOf → ClassCause → Type 0
 HasClassCause world class cause.Enum = IsBitSet class.flags 14
 HasClassCause world class cause.Annotation = IsBitSet class.flags 13

@@ -16,7 +16,7 @@ pub enum ClassCause {
     Root,
     /// Its text would have this name, which it can't say.
     Name(Units),
-    /// It is an interface, and its field of this name has no value that a text can show.
+    /// It is an interface, and its field of this name has no constant, or that of a float or a double.
     Constant(Units),
 }
 

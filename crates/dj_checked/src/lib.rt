@@ -1,6 +1,6 @@
 //! Whether Java accepts an expression, and else the first rule that it breaks (JLS 15).
 //! It stands on `dj_typing` for the rules, on `dj_static` for types and for what names and calls mean, and on `dj_faults` for faults.
-//! The layers above use `check_expression`; `pass_exp` and `pass_effect` with `Walk` for the expressions of statements, and the tests of names and types for the statements.
+//! The layer above uses `pass_exp`, `pass_exps` and `pass_effect` with `Walk` for the expressions of statements, and the tests of names and types for the statements; `check_expression` judges one expression alone.
 #![tactic(auto)]
 
 mod calls;

@@ -17,7 +17,7 @@ AsksFront old new names = (count : ℕ) × (new ≡ asked_with old (take count n
 abbrev pub CanLoad : Option Files → List (List ℕ) → Type 0
 CanLoad held names = IfSome held (λ files. (contents : List (List ℕ)) × AreContents files names contents)
 
--- the load of the name at this place counted a fault: the files before it were loaded, and no name behind it was asked
+-- the load of the name at this place counted a fault: the files before it are held and aren't too large, and no name behind it was asked
 pub record ReadFails (held : Option Files) (names : List (List ℕ)) (asked_old asked_new : Option (List (List ℕ))) (faults_old faults_new : ℕ) (place : ℕ) : Type 0 where
   pub due : place < length names
   pub few : place < most_files
@@ -39,7 +39,7 @@ pub data Exceeds (held : Option Files) (names : List (List ℕ)) (place : ℕ) :
   together : place < most_files → AreTooLarge held names place → Exceeds held names place (place + 1)
   many : place ≡ most_files → Exceeds held names place place
 
--- loading can't go on at this place: the files before it were loaded, and no name behind it was asked
+-- loading can't go on at this place: the files before it are held and aren't too large, and no name behind it was asked
 pub record IsTooMuch (held : Option Files) (names : List (List ℕ)) (asked_old asked_new : Option (List (List ℕ))) (place : ℕ) : Type 0 where
   pub due : place < length names
   pub before : CanLoad held (take place names)

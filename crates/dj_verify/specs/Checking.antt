@@ -60,7 +60,7 @@ abbrev pub IsBroken : (Rule → Type 0) → List Rule → Option Rule → Type 0
 IsBroken Keep list None = KeepsAll Keep list
 IsBroken Keep list (Some rule) = BreaksFirst Keep list rule
 
--- what flows in goes into the frame at a place, which is this one; or it doesn't, and is the first rule broken there
+-- what flows in goes into the frame at a place, which is this one; or it doesn't, and that is the first rule broken there
 abbrev pub IsPlaced : Assignability → List Header → Code → Place → Option Working → Bool → Type 0
 IsPlaced Goes headers code place frame true = (frame_at code place ≡ frame) × Keeps Goes headers code place Into
 IsPlaced Goes headers code place frame false = BreaksFirst (Keeps Goes headers code place) rules Into

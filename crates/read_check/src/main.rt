@@ -1,6 +1,6 @@
 //! Reads texts that `decompile` printed, and tells of each whether its unit is read back: `read`, `misread`, `deep` or `no text`.
 //! It stands on `dj_read` for the reader, and on `dj_outer` for files.
-//! No layer stands above it: `bench/first_path` runs it on large texts.
+//! No layer stands above it: `bench/first_path` and `bench/texts` run it on large texts.
 #![tactic(auto)]
 
 ghost use Rattle.std.specs.Prelude.{◌<◌, length};
