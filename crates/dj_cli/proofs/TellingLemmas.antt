@@ -1,6 +1,6 @@
 -- Pieces told one after another, and where telling them stops.
 use Rattle.std.proofs.Common.{arith, ◌≡◌, ◌≢◌, ℕ, ◌+◌, Bool, true, false, not, ◌==◌, ◌||◌, List, [], ◌∷◌, ◌++◌, length, take, Option, Some, Ok, Err, refl, sym, ap, ◌∙◌, subst, append_assoc, append-nil, inl, inr}
-use Rattle.std.specs.Prelude.{◌<◌, ◌^◌, get_or, if◌then◌else◌, map, MatchBool, slice_get}
+use Rattle.std.specs.Prelude.{◌<◌, ◌≤◌, ◌^◌, get_or, if◌then◌else◌, map, MatchBool, slice_get}
 use Rattle.std.specs.Option.{option_map}
 use Rattle.std.proofs.lemmas.Option.{slice_get-map, slice_get-get_or}
 use Rattle.std.specs.Io.KnownBytes.{append_known}
@@ -9,7 +9,8 @@ use Rattle.std.proofs.lemmas.List.Sums.{sum_by_push}
 use Rattle.std.proofs.lemmas.Bool.Decides.{eqb_tells}
 use Rattle.dj_outer.specs.declared.files.Failed.{Failed}
 use Rattle.dj_outer.specs.Sink.{Puts}
-use Rattle.dj_outer.proofs.PutsLemmas.{known-then, known-nothing}
+use Rattle.dj_outer.specs.Count.{Rose}
+use Rattle.dj_outer.proofs.PutsLemmas.{known-then, known-nothing, rose-from}
 use Rattle.dj_names.specs.Shown.{show_units}
 use Rattle.dj_cli.specs.declared.endings.MemberLine.{MemberLine}
 use Rattle.dj_cli.specs.declared.endings.Subject.{Subject}
@@ -199,6 +200,21 @@ back-some (first ∷ front) byte back = λ same. cc
 -- one line more
 pub lines_bytes-push : (class : List ℕ) (lines : List MemberLine) (line : MemberLine) → lines_bytes class (lines ++ line ∷ []) ≡ lines_bytes class lines ++ line_bytes class line
 lines_bytes-push class lines line = sym (flat_map_more (line_bytes class) [] lines line)
+
+-- what was put and what is gathered behind it, where a line comes behind both, and then the rest
+pub gathered-on : (put old all front back line rest : List ℕ) → put ++ old ≡ all → front ++ back ≡ old ++ line → (put ++ front) ++ (back ++ rest) ≡ all ++ line ++ rest
+gathered-on put old all front back line rest before both =
+    append_assoc put front (back ++ rest)
+    ∙ ap (λ behind. put ++ behind) (sym (append_assoc front back rest) ∙ ap (λ list. list ++ rest) both ∙ append_assoc old line rest)
+    ∙ sym (append_assoc put old (line ++ rest))
+    ∙ ap (λ list. list ++ (line ++ rest)) before
+    ∙ sym (append_assoc all line rest)
+
+-- what failed with a count that rose failed from an earlier one on
+pub failed-from : (stop : TellStop) (text_first text_old text_new report_first report_old report_new : ℕ) → text_first ≤ text_old → report_first ≤ report_old → StoppedTelling stop (Rose text_old text_new) (Rose report_old report_new) (Unit {0}) → StoppedTelling stop (Rose text_first text_new) (Rose report_first report_new) (Unit {0})
+failed-from Text text_first text_old text_new report_first report_old report_new text report rose = rose-from text_first text_old text_new text rose
+failed-from Report text_first text_old text_new report_first report_old report_new text report rose = rose-from report_first report_old report_new report rose
+failed-from (Memory error) text_first text_old text_new report_first report_old report_new text report rose = tt
 
 -- what a line names has bytes
 subject-some : (class : List ℕ) (named : Subject) → subject_bytes class named ≢ []

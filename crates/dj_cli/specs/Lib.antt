@@ -2,6 +2,7 @@
 pub mod Output
 pub mod Program
 pub mod Lines
+pub mod Gathering
 pub mod Methods
 pub mod Pieces
 pub mod Telling

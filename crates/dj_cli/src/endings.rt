@@ -4,13 +4,15 @@ ghost use Rattle.std.specs.Prelude.{◌≡◌, ◌++◌, IfOk};
 ghost use Rattle.dj_outer.specs.Sink.{Puts};
 ghost use Rattle.dj_report.specs.Report.{refused_field_tail, refused_method_tail};
 ghost use Rattle.dj_cli.specs.Lines.{ending_bytes, line_bytes, lines_bytes, subject_bytes};
+ghost use Rattle.dj_cli.specs.Gathering.{Gathers};
 
 use dj_causes::{Cause, FieldCause};
 use dj_class::Method;
 use dj_names::{ClassName, Field, Units};
 use dj_outer::{Failed, Sink};
 use dj_report::{
-    put_field_line, put_method_line, put_name_tail, refused_field_tail, refused_method_tail,
+    Gathered, put_field_line, put_method_line, put_name_tail, put_piece, refused_field_tail,
+    refused_method_tail,
 };
 use std::alloc::{AllocError, Global};
 
@@ -108,7 +110,27 @@ fn put_line<P: Sink>(report: &mut P, class: &ClassName, line: &MemberLine<'_>) -
     }
 }
 
-/// Puts lines on fields and methods of a class.
+/// Gathers the line on a field or a method of a class behind those that are gathered; where it doesn't fit, these are put,
+/// and then it.
+fn gather_line<P: Sink>(
+    report: &mut P,
+    class: &ClassName,
+    line: &MemberLine<'_>,
+    gathered: &mut Gathered,
+) -> Result<(), Failed>
+    ensures gathers { Gathers result (P.taken report.old) (P.taken report.new) (P.faults report.old) (P.faults report.new) gathered.old.bytes.items gathered.new.bytes.items (line_bytes class.now line.now) }
+{
+    let before = gathered.bytes.len();
+    if let Ok(()) = put_line(gathered, class, line) {
+        return Ok(());
+    }
+    gathered.bytes.truncate(before);
+    put_piece(report, gathered.bytes.as_slice())?;
+    gathered.bytes.clear();
+    put_line(report, class, line)
+}
+
+/// Puts lines on fields and methods of a class, in as few pieces as they are gathered in.
 pub fn put_lines<P: Sink>(
     report: &mut P,
     class: &ClassName,
@@ -116,8 +138,9 @@ pub fn put_lines<P: Sink>(
 ) -> Result<(), Failed>
     ensures puts { Puts result (P.taken report.old) (P.taken report.new) (P.faults report.old) (P.faults report.new) (lines_bytes class.now lines.now) }
 {
+    let mut gathered = Gathered::new();
     for line in lines {
-        put_line(report, class, line)?;
+        gather_line(report, class, line, &mut gathered)?;
     }
-    Ok(())
+    put_piece(report, gathered.bytes.as_slice())
 }

@@ -92,8 +92,8 @@ fn find_spelled<'a>(
     ensures found { IfOk result (λ found. (before : List MethodOf) → Holds declared.old before → IsFound world.now (view_class class.now) before (view_method method.now) found) }
     ensures declared { OnOk result ((before : List MethodOf) → Holds declared.old before → Holds declared.new (before ++ view_method method.now ∷ [])) }
 {
-    match verifier.verify(alloc, world.headers(), code) {
-        Ok(typed) => find_verified(alloc, class, declared, method, &typed.code),
+    match verifier.check(alloc, world.headers(), &code) {
+        Ok(()) => find_verified(alloc, class, declared, method, &code),
         Err(VerifyFault::Unverified { pc, rule }) => {
             declared.admit(method)?;
             Ok(Finding::Unverified { pc, rule })
@@ -216,7 +216,7 @@ fn judge_method<'a>(
 }
 
 /// What is found of the methods of a class in the world, whose code this verifies.
-fn judge_each<'a>(
+pub fn judge_methods<'a>(
     alloc: Global,
     world: &World,
     verifier: &Verifier,
@@ -252,18 +252,4 @@ fn judge_each<'a>(
         }
     }
     Ok(Judgement { bodies, lines })
-}
-
-/// What is found of the methods of a class in the world.
-pub fn judge_methods<'a>(
-    alloc: Global,
-    world: &World,
-    class: &'a ClassFile,
-    causes: &Causes,
-) -> Result<Judgement<'a>, AllocError>
-    requires made { AreCauses world.now (view_class class.now) causes.now }
-    ensures judged { IfOk result (λ found. AreJudged world.now (view_class class.now) (view_class class.now).methods (map (option_map view_body) found.bodies) (lines_bytes class.now.this_class found.lines.items) (length found.lines.items)) }
-{
-    let verifier = Verifier::new(alloc)?;
-    judge_each(alloc, world, &verifier, class, causes)
 }

@@ -19,6 +19,7 @@ use dj_class_text::class_text;
 use dj_names::ClassName;
 use dj_print::unit_bytes;
 use dj_syntax::Unit;
+use dj_verify::Verifier;
 use dj_world::World;
 use std::alloc::{AllocError, Global};
 
@@ -58,10 +59,11 @@ fn file_line(alloc: Global, name: &ClassName) -> Result<Vec<u8>, AllocError>
     Ok(line)
 }
 
-/// What is told of a class of the world that no cause refuses.
+/// What is told of a class of the world that no cause refuses, whose code this verifies.
 fn printed_piece<'a>(
     alloc: Global,
     world: &World,
+    verifier: &Verifier,
     class: &'a ClassFile,
     causes: &Causes,
 ) -> Result<ClassPiece<'a>, AllocError>
@@ -71,7 +73,7 @@ fn printed_piece<'a>(
     ensures printed { IfOk result (λ piece. PrintsClass world.now (view_class class.now) (piece_of class.now.this_class piece)) }
 {
     let fields = field_lines(alloc, world, class, causes)?;
-    let Judgement { bodies, lines } = judge_methods(alloc, world, class, causes)?;
+    let Judgement { bodies, lines } = judge_methods(alloc, world, verifier, class, causes)?;
     let printed = class.methods.len() - lines.len();
     let unit = class_text(alloc, world, class, causes, bodies)?;
     let piece = piece_of_unit(alloc, &class.this_class, &unit, fields, lines, printed)?;
@@ -102,10 +104,11 @@ fn piece_of_unit<'a>(
     })
 }
 
-/// What is told of a class of the world.
+/// What is told of a class of the world, whose code this verifies.
 pub fn piece_of_class<'a>(
     alloc: Global,
     world: &World,
+    verifier: &Verifier,
     class: &'a ClassFile,
 ) -> Result<ClassTold<'a>, AllocError>
     requires of_file { IsFromFile (view_class class.now) }
@@ -114,6 +117,9 @@ pub fn piece_of_class<'a>(
     let causes = Causes::new(alloc, world, class)?;
     match causes.class_cause(alloc, world, class)? {
         Some(cause) => Ok(ClassTold::Refused(cause)),
-        None => Ok(ClassTold::Printed(printed_piece(alloc, world, class, &causes)?)),
+        None => {
+            let piece = printed_piece(alloc, world, verifier, class, &causes)?;
+            Ok(ClassTold::Printed(piece))
+        }
     }
 }

@@ -25,6 +25,7 @@ use dj_outer::{Files, Sink};
 use dj_report::{Status, much_line, read_line, usage_line};
 use dj_words::{Order, WordsFault, read_words};
 use std::alloc::{AllocError, Global};
+use std::mem;
 
 /// Puts one last line, and ends with this status.
 fn last_line<P: Sink>(report: &mut P, line: &[u8], status: Status) -> Status
@@ -99,7 +100,10 @@ fn print_files<F: Files, T: Sink, P: Sink>(
     match load_order(alloc, named, list, files) {
         Ok(contents) => {
             let found = read_files(alloc, contents)?;
-            tell(alloc, named, false, &found, text, report)
+            let told = tell(alloc, named, false, &found, text, report);
+            // The run ends here, and the system takes all of it back at once.
+            mem::forget(found);
+            told
         }
         Err(LoadStop::Fault(place)) => {
             let line = read_line(alloc, place)?;
@@ -141,7 +145,8 @@ fn print_made<T: Sink, P: Sink>(
 /// The first word is the program's name. Files are loaded in order, or made where the words order that, read, and
 /// added to the world, into which the core classes are filled; and then the text of each is put before its lines.
 /// Behind made files the text has one line on them. After Usage, ReadFault and TooMuch one last line is put. Want of
-/// memory may come instead of any answer.
+/// memory may come instead of any answer. What was read of files that were loaded isn't freed, since a program ends
+/// behind its run.
 pub fn run<F: Files, T: Sink, P: Sink>(
     alloc: Global,
     words: &[String],

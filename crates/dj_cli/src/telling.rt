@@ -22,6 +22,7 @@ use dj_load::{Found, FoundFiles};
 use dj_names::ClassName;
 use dj_outer::{Failed, Sink};
 use dj_report::{broken_line, clash_line, put_piece, put_refused_class_line, refused_class_tail};
+use dj_verify::Verifier;
 use dj_world::{ClashKind, World};
 use std::alloc::{AllocError, Global};
 
@@ -123,10 +124,11 @@ fn tell_refused<P: Sink>(
     }
 }
 
-/// Tells the piece of a class.
+/// Tells the piece of a class, whose code this verifies.
 fn tell_class<T: Sink, P: Sink>(
     alloc: Global,
     world: &World,
+    verifier: &Verifier,
     class: &ClassFile,
     text: &mut T,
     report: &mut P,
@@ -140,7 +142,7 @@ fn tell_class<T: Sink, P: Sink>(
     ensures text_falls { T.faults text.old ≤ T.faults text.new }
     ensures report_falls { P.faults report.old ≤ P.faults report.new }
 {
-    match piece_of_class(alloc, world, class)? {
+    match piece_of_class(alloc, world, verifier, class)? {
         ClassTold::Printed(piece) => tell_printed(&class.this_class, &piece, text, report),
         ClassTold::Refused(cause) => {
             let methods = class.methods.len();
@@ -188,10 +190,11 @@ fn tell_clash<P: Sink>(
     }
 }
 
-/// Tells the piece of a file of this path.
+/// Tells the piece of a file of this path, the code of whose class this verifies.
 fn tell_file<T: Sink, P: Sink>(
     alloc: Global,
     world: &World,
+    verifier: &Verifier,
     path: &str,
     found: &Found,
     text: &mut T,
@@ -207,7 +210,7 @@ fn tell_file<T: Sink, P: Sink>(
     ensures report_falls { P.faults report.old ≤ P.faults report.new }
 {
     match found {
-        Found::Class(class) => tell_class(alloc, world, class, text, report),
+        Found::Class(class) => tell_class(alloc, world, verifier, class, text, report),
         Found::Clash(kind) => tell_clash(alloc, path, *kind, report),
         Found::Broken { kind, offset } => tell_broken(alloc, path, *kind, *offset, report),
     }
@@ -273,12 +276,14 @@ pub fn tell_files<T: Sink, P: Sink>(
     ensures text_falls { T.faults text.old ≤ T.faults text.new }
     ensures report_falls { P.faults report.old ≤ P.faults report.new }
 {
+    let verifier = Verifier::new(alloc)?;
     let found = files.found.as_slice();
     let mut tally = no_tally();
     for place in 0..named.len() {
         let one = tell_file(
             alloc,
             &files.world,
+            &verifier,
             named[place].as_str(),
             &found[place],
             text,

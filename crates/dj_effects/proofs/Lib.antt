@@ -1,4 +1,5 @@
 pub mod Stacking
 pub mod Lists
+mod StackWords
 mod Replacing
 mod Examples

@@ -1,9 +1,9 @@
 //! The operand stack as an instruction works on it.
 
-ghost use Rattle.std.specs.Prelude.{◌≡◌, ◌∷◌, ◌++◌, map, drop, slice_get, IfOk, OnOk};
+ghost use Rattle.std.specs.Prelude.{◌≡◌, ◌↔◌, ◌<◌, ◌≤◌, ◌+◌, ◌∷◌, ◌++◌, flat_map, length, map, drop, slice_get, IfNone, IfOk, IfSome, IsTrue, OnOk};
 ghost use Rattle.std.specs.List.{list_any};
 ghost use Rattle.std.specs.Option.{option_copied};
-ghost use Rattle.dj_frames.specs.Frames.{view_tag, view_tags, is_unborn};
+ghost use Rattle.dj_frames.specs.Frames.{view_tag, view_tags, slots_of, is_unborn};
 ghost use Rattle.dj_tags.specs.Goes.{reversed};
 ghost use Rattle.dj_effects.specs.Effects.{instead};
 ghost use Rattle.dj_effects.specs.Stacked.{tags_of};
@@ -14,6 +14,12 @@ use smallvec::SmallVec;
 use std::alloc::{AllocError, Global};
 use std::default::MadeWith;
 use std::marker::Model;
+
+/// How many pushed entries take no memory.
+const FEW: usize = 4;
+
+/// How many pushed entries lie apart from what was there before.
+const MOST: usize = 16;
 
 /// An entry of the stack.
 #[derive(Drop)]
@@ -37,7 +43,7 @@ impl MadeWith<Global> for Entry {
 #[derive(Drop)]
 pub struct Stack {
     below: Slots,
-    top: SmallVec<Entry, 3>,
+    top: SmallVec<Entry, FEW>,
 }
 
 impl Model for Stack {
@@ -65,6 +71,22 @@ fn settle(alloc: Global, below: &mut Slots, top: &[Entry]) -> Result<(), AllocEr
     Ok(())
 }
 
+/// How many of so many words these entries leave; none where they take more.
+fn words_left(top: &[Entry], most: usize) -> Option<usize>
+    ensures left { IfSome result (λ left. length (flat_map slots_of (view_tags (tags_of top.now))) + left ≡ most) }
+    ensures none { IfNone result (most < length (flat_map slots_of (view_tags (tags_of top.now)))) }
+{
+    let mut left = most;
+    for entry in top {
+        let words = entry.tag.words();
+        if left < words {
+            return None;
+        }
+        left -= words;
+    }
+    Some(left)
+}
+
 /// Whether an entry is the object.
 fn is_pushed(top: &[Entry], unborn: Unborn) -> bool
     ensures pushed { result ≡ list_any (is_unborn unborn) (view_tags (tags_of top.now)) }
@@ -88,15 +110,6 @@ impl Stack {
         })
     }
 
-    /// The entries from the bottom up.
-    pub fn into_slots(self, alloc: Global) -> Result<Slots, AllocError>
-        ensures same { IfOk result (λ slots. reversed slots ≡ self) }
-    {
-        let Stack { mut below, top } = self;
-        settle(alloc, &mut below, top.as_slice())?;
-        Ok(below)
-    }
-
     /// The entry with so many on top of it.
     pub fn peek(&self, depth: usize) -> Option<&Tag>
         ensures entry { option_copied result ≡ slice_get self.now depth }
@@ -110,6 +123,37 @@ impl Stack {
             return self.below.get(self.below.len() - 1 - depth);
         }
         None
+    }
+
+    /// Whether the entries take no more than so many words: a Long or a Double takes two, each other one.
+    pub fn fits(&self, most: u16) -> bool
+        ensures fits { IsTrue result ↔ (length (flat_map slots_of (view_tags self.now)) ≤ most) }
+    {
+        match words_left(self.top.as_slice(), usize::from(most)) {
+            Some(left) => self.below.words() <= left,
+            None => false,
+        }
+    }
+
+    /// The entries from the bottom up. They are those of the stack too from now on, and shared.
+    pub fn slots(&mut self, alloc: Global) -> Result<Slots, AllocError>
+        ensures slots { IfOk result (λ slots. reversed slots ≡ self.old) }
+        ensures same { OnOk result (self.new ≡ self.old) }
+    {
+        settle(alloc, &mut self.below, self.top.as_slice())?;
+        self.top.clear();
+        let slots = self.below.copy(alloc)?;
+        Ok(slots)
+    }
+
+    /// Lays what was pushed with what was there before, where it is more than 16 entries.
+    pub fn settle(&mut self, alloc: Global) -> Result<(), AllocError>
+        ensures same { OnOk result (self.new ≡ self.old) }
+    {
+        if self.top.len() > MOST {
+            self.slots(alloc)?;
+        }
+        Ok(())
     }
 
     /// Puts an entry on top.

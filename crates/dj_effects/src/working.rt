@@ -1,6 +1,6 @@
 //! A frame as an instruction works on it.
 
-ghost use Rattle.std.specs.Prelude.{◌≡◌, IfOk};
+ghost use Rattle.std.specs.Prelude.{◌≡◌, IfOk, OnOk};
 ghost use Rattle.dj_frames.specs.Frames.{view_frame};
 ghost use Rattle.dj_tags.specs.Goes.{top_down};
 ghost use Rattle.dj_effects.specs.Doing.{view_working};
@@ -29,20 +29,24 @@ impl Working {
         })
     }
 
-    /// The frame that it has become.
-    pub fn into_frame(self, alloc: Global) -> Result<Frame, AllocError>
-        ensures same { IfOk result (λ frame. top_down (view_frame frame) ≡ view_working self) }
+    /// The frame that it is now, which shares its parts with it.
+    pub fn frame(&mut self, alloc: Global) -> Result<Frame, AllocError>
+        ensures frame { IfOk result (λ frame. top_down (view_frame frame) ≡ view_working self.old) }
+        ensures same { OnOk result (view_working self.new ≡ view_working self.old) }
     {
-        let Working {
-            locals,
-            stack,
-            unborn_this,
-        } = self;
-        let stack = stack.into_slots(alloc)?;
+        let stack = self.stack.slots(alloc)?;
         Ok(Frame {
-            locals,
+            locals: self.locals.copy(alloc)?,
             stack,
-            unborn_this,
+            unborn_this: self.unborn_this,
         })
+    }
+
+    /// Lays what was pushed on the stack with what was there before, where it is more than 16 entries.
+    pub fn settle(&mut self, alloc: Global) -> Result<(), AllocError>
+        ensures same { OnOk result (view_working self.new ≡ view_working self.old) }
+    {
+        self.stack.settle(alloc)?;
+        Ok(())
     }
 }

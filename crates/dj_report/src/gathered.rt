@@ -1,4 +1,4 @@
-//! A sink of a few bytes, in which a line is gathered, to be put in one piece.
+//! A sink of a few bytes, in which lines are gathered, to be put in one piece.
 
 ghost use Rattle.std.specs.Prelude.{◌≡◌, []};
 
@@ -6,9 +6,9 @@ use arrayvec::ArrayVec;
 use dj_outer::{Failed, Sink};
 
 /// How many bytes are gathered at most.
-const MOST: usize = 1024;
+const MOST: usize = 4096;
 
-/// The bytes of a line as far as they are gathered. A piece that doesn't fit behind them isn't taken,
+/// Bytes as far as they are gathered, at most 4,096 of them. A piece that doesn't fit behind them isn't taken,
 /// which counts as a fault.
 #[derive(Drop)]
 pub struct Gathered {

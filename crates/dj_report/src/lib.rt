@@ -10,6 +10,7 @@ mod refused;
 mod report;
 mod status;
 
+pub use gathered::Gathered;
 pub use named::put_name_tail;
 pub use putting::put_piece;
 pub use refused::{

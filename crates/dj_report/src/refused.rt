@@ -6,7 +6,6 @@ ghost use Rattle.dj_names.specs.Types.{view_type};
 ghost use Rattle.dj_outer.specs.Sink.{Puts};
 ghost use Rattle.dj_report.specs.Report.{refused_class_tail, refused_field_tail, refused_method_tail, shown_field};
 
-use crate::gathered::Gathered;
 use crate::putting::{put_piece, put_type, put_units};
 use dj_causes::{Cause, ClassCause, FieldCause};
 use dj_names::{ClassName, JType, Units};
@@ -69,26 +68,8 @@ pub fn put_refused_class_line<P: Sink>(
     put_piece(report, tail.as_bytes())
 }
 
-/// Puts the line on a field of a class, by its name and its type, with this end. One that isn't long is
-/// put in one piece.
+/// Puts the line on a field of a class, by its name and its type, with this end, piece by piece.
 pub fn put_field_line<P: Sink>(
-    report: &mut P,
-    class: &ClassName,
-    name: &Units,
-    kind: &JType,
-    tail: &str,
-) -> Result<(), Failed>
-    ensures puts { Puts result (P.taken report.old) (P.taken report.new) (P.faults report.old) (P.faults report.new) (shown_field class.now name.now (view_type kind.now) ++ tail.now) }
-{
-    let mut gathered = Gathered::new();
-    match put_field_parts(&mut gathered, class, name, kind, tail) {
-        Ok(()) => put_piece(report, gathered.bytes.as_slice()),
-        Err(Failed) => put_field_parts(report, class, name, kind, tail),
-    }
-}
-
-/// Puts the line on a field of a class piece by piece.
-fn put_field_parts<P: Sink>(
     report: &mut P,
     class: &ClassName,
     name: &Units,

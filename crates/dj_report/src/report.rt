@@ -5,7 +5,6 @@ ghost use Rattle.dj_names.specs.Types.{view_descriptor};
 ghost use Rattle.dj_outer.specs.Sink.{Puts};
 ghost use Rattle.dj_report.specs.Report.{Line, bad_tail, bad_text, broken_text, clash_text, kind_text, line_text, not_yet_tail, path_units, rule_text, shown_method, unverified_tail};
 
-use crate::gathered::Gathered;
 use crate::putting::{put_descriptor, put_piece, put_units};
 use dj_instructions::BadKind;
 use dj_names::{ClassName, Descriptor, Units};
@@ -140,26 +139,8 @@ pub fn unverified_tail(alloc: Global, rule: Rule, pc: u32) -> Result<String, All
     format!(in alloc; " unverified {rule} {pc}\n")
 }
 
-/// Puts the line on a method of a class, by its name and its descriptor, with this end. One that isn't
-/// long is put in one piece.
+/// Puts the line on a method of a class, by its name and its descriptor, with this end, piece by piece.
 pub fn put_method_line<P: Sink>(
-    report: &mut P,
-    class: &ClassName,
-    name: &Units,
-    descriptor: &Descriptor,
-    tail: &str,
-) -> Result<(), Failed>
-    ensures puts { Puts result (P.taken report.old) (P.taken report.new) (P.faults report.old) (P.faults report.new) (shown_method class.now name.now (view_descriptor descriptor.now) ++ tail.now) }
-{
-    let mut gathered = Gathered::new();
-    match put_method_parts(&mut gathered, class, name, descriptor, tail) {
-        Ok(()) => put_piece(report, gathered.bytes.as_slice()),
-        Err(Failed) => put_method_parts(report, class, name, descriptor, tail),
-    }
-}
-
-/// Puts the line on a method of a class piece by piece.
-fn put_method_parts<P: Sink>(
     report: &mut P,
     class: &ClassName,
     name: &Units,

@@ -8,3 +8,4 @@ mod PlaceSteps
 mod PlacedFrames
 mod OneTable
 mod LandingFrames
+mod TurnedFrames

@@ -7,7 +7,7 @@ use Rattle.dj_frames.specs.declared.frame.Frame as code_frame
 use Rattle.dj_frames.specs.Frames.{Tag, Top, view_tag, view_tags}
 use Rattle.dj_tags.specs.Goes.{Assignability, LocalsGo, Working, FrameGoes, reversed}
 use Rattle.dj_verify.specs.Rules.{padded}
-use Rattle.dj_verify.specs.Checking.{working_of}
+use Rattle.dj_verify.specs.Frames.{working_of}
 
 pub map_append : {A B : Type 0} (f : A → B) (xs ys : List A) → map f (xs ++ ys) ≡ map f xs ++ map f ys
 map_append f [] ys = refl

@@ -1,21 +1,22 @@
 -- What the functions that check a place promise each other.
-use Rattle.std.specs.Prelude.{◌≡◌, ◌↔◌, ℕ, ◌≤◌, List, [], ◌∷◌, ◌++◌, map, length, drop, slice_get, Bool, true, false, Option, Some, None, option_map, IfSome, IsTrue}
+use Rattle.std.specs.Prelude.{◌≡◌, ◌↔◌, ℕ, ◌≤◌, All, List, [], ◌∷◌, length, drop, slice_get, Bool, true, false, Option, Some, None, option_map, IfSome, IsTrue}
 use Rattle.std.specs.Option.{option_and_then}
 use Rattle.std.specs.Ordering.{nat_cmp}
 use Rattle.std.specs.BTreeMap as tree
 use Rattle.std.specs.BTreeMap.{BTreeMap}
 use Rattle.dj_names.specs.declared.header.Header.{Header}
 use Rattle.dj_instructions.specs.Instructions.{Instructions, IsRising, view_instructions}
-use Rattle.dj_frames.specs.declared.frame.Frame as code_frame
-use Rattle.dj_frames.specs.Frames.{Frame, view_frame, view_frames}
+use Rattle.dj_frames.specs.Frames.{Frame, view_frames}
 use Rattle.dj_code.specs.MethodCode.{Code}
-use Rattle.dj_tags.specs.Goes.{Assignability, Working, top_down}
-use Rattle.dj_effects.specs.Doing.{IsKnown}
+use Rattle.dj_tags.specs.Goes.{Assignability, Working}
+use Rattle.dj_effects.specs.declared.working.Working as code_working
+use Rattle.dj_effects.specs.Doing.{IsKnown, view_working}
+use Rattle.dj_verify.specs.declared.checking.Before.{Before}
 use Rattle.dj_verify.specs.declared.subject.Subject.{Subject}
 use Rattle.dj_verify.specs.declared.rule.Rule.{Rule}
 use Rattle.dj_verify.specs.declared.rule.Rule.TheVariants.{Into, Operands, Room, Target, Handler, Past}
-use Rattle.dj_verify.specs.Rules.{Place, frame_in, FrameKeeps}
-use Rattle.dj_verify.specs.Table.{frame_at, flow_behind, Keeps, KeepsAll, BreaksFirst, rules}
+use Rattle.dj_verify.specs.Rules.{Covers, HandlerTakes, HasRoom, Place, effect_at, frame_in, FrameKeeps}
+use Rattle.dj_verify.specs.Table.{frame_at, flow_behind, Keeps, KeepsAll, BreaksFirst, rules, IsTableTo}
 
 -- ---- given frames
 
@@ -32,13 +33,9 @@ pub record IsReady (subject : Subject) : Type 0 where
 
 -- ---- a place
 
--- a frame of the code, seen from the top of its stack down
-abbrev pub working_of : code_frame.Frame → Working
-working_of frame = top_down (view_frame frame)
-
--- what flows in, seen in the same way
-abbrev pub flow_of : Option code_frame.Frame → Option Working
-flow_of = option_map working_of
+-- what flows in, seen from the top of its stack down
+abbrev pub flow_of : Option code_working.Working → Option Working
+flow_of = option_map view_working
 
 -- what flows in has no more locals than there are
 abbrev pub FlowFits : Code → Option Working → Type 0
@@ -48,6 +45,11 @@ FlowFits code flow = IfSome flow (λ frame. length frame.locals ≤ code.max_loc
 pub record AreTold (code : Code) (flow : Option Working) (rest : Instructions) (fits is_last : Bool) : Type 0 where
   pub flow_fits : IsTrue fits ↔ FlowFits code flow
   pub at_end : IsTrue is_last ↔ (rest ≡ [])
+
+-- what is asked of a frame alone: whether it is within the limits, and whether the handlers that span the offset take what may be thrown in it
+pub record IsAsked (Goes : Assignability) (code : Code) (pc : ℕ) (frame : Working) (before : Before) : Type 0 where
+  pub room : IsTrue before.has_room ↔ HasRoom code frame
+  pub taken : IsTrue before.is_taken ↔ All (λ handler. Covers handler pc → HandlerTakes Goes code frame handler) code.handlers
 
 -- ---- rules
 
@@ -65,25 +67,27 @@ abbrev pub IsPlaced : Assignability → List Header → Code → Place → Optio
 IsPlaced Goes headers code place frame true = (frame_at code place ≡ frame) × Keeps Goes headers code place Into
 IsPlaced Goes headers code place frame false = BreaksFirst (Keeps Goes headers code place) rules Into
 
--- frames of the code, seen from the tops of their stacks down
-abbrev pub workings : List code_frame.Frame → List Working
-workings frames = map top_down (map view_frame frames)
+-- the first of the later rules that an instruction with its frame breaks; or where it keeps them all, what it leaves
+abbrev pub IsFrameChecked : Assignability → List Header → Code → Place → Working → Working → Option Rule → Type 0
+IsFrameChecked Goes headers code place frame after (Some rule) = BreaksFirst (FrameKeeps Goes headers code place frame) (Operands ∷ late_rules) rule
+IsFrameChecked Goes headers code place frame after None =
+    KeepsAll (FrameKeeps Goes headers code place frame) (Operands ∷ late_rules) × (after ≡ effect_at code place frame)
 
--- the first of the later rules that an instruction with its frame breaks; or where it keeps them all, the frame behind those before, and what flows on
-abbrev pub IsFrameChecked : Assignability → List Header → Code → Place → Working → List code_frame.Frame → List code_frame.Frame → Option code_frame.Frame → Option Rule → Type 0
-IsFrameChecked Goes headers code place frame before after behind (Some rule) = BreaksFirst (FrameKeeps Goes headers code place frame) (Operands ∷ late_rules) rule
-IsFrameChecked Goes headers code place frame before after behind None =
-    (workings after ≡ workings before ++ frame ∷ []) × KeepsAll (FrameKeeps Goes headers code place frame) (Operands ∷ late_rules) × (flow_of behind ≡ flow_behind code place frame)
-
--- the place keeps all rules with its frame, which is put behind those before, and what flows on
-pub record IsKept (Goes : Assignability) (headers : List Header) (code : Code) (place : Place) (before after : List code_frame.Frame) (behind : Option code_frame.Frame) : Type 0 where
+-- the place keeps all rules with its frame, of which this holds, and this flows on
+pub record IsKept (Goes : Assignability) (headers : List Header) (code : Code) (place : Place) (Holds : Working → Type 0) (behind : Option Working) : Type 0 where
   pub frame : Working
   pub frame_is : frame_at code place ≡ Some frame
-  pub put : workings after ≡ workings before ++ frame ∷ []
+  pub holds : Holds frame
   pub keeps : KeepsAll (Keeps Goes headers code place) rules
-  pub flows : flow_of behind ≡ flow_behind code place frame
+  pub flows : behind ≡ flow_behind code place frame
 
 -- the same of all rules at a place
-abbrev pub IsChecked : Assignability → List Header → Code → Place → List code_frame.Frame → List code_frame.Frame → Option code_frame.Frame → Option Rule → Type 0
-IsChecked Goes headers code place before after behind (Some rule) = BreaksFirst (Keeps Goes headers code place) rules rule
-IsChecked Goes headers code place before after behind None = IsKept Goes headers code place before after behind
+abbrev pub IsChecked : Assignability → List Header → Code → Place → (Working → Type 0) → Option Working → Option Rule → Type 0
+IsChecked Goes headers code place Holds behind (Some rule) = BreaksFirst (Keeps Goes headers code place) rules rule
+IsChecked Goes headers code place Holds behind None = IsKept Goes headers code place Holds behind
+
+-- there is a table of frames for code, of which this holds
+pub record HasTableSo (Holds : List Working → Type 0) (Goes : Assignability) (headers : List Header) (code : Code) : Type 0 where
+  pub frames : List Working
+  pub holds : Holds frames
+  pub table : IsTableTo Goes headers code (length code.instructions) frames

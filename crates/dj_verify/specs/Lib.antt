@@ -4,5 +4,6 @@ pub mod Table
 pub mod Verified
 pub mod Tabled
 -- What the crate keeps to itself.
+pub mod Frames
 pub mod Checking
 pub mod Landings

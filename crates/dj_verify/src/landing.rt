@@ -6,11 +6,13 @@ ghost use Rattle.dj_frames.specs.Frames.{view_frame, view_tag};
 ghost use Rattle.dj_code.specs.MethodCode.{view_code};
 ghost use Rattle.dj_effects.specs.Rows.{object};
 ghost use Rattle.dj_verify.specs.Rules.{caught_class, Covers, HandlerTakes};
-ghost use Rattle.dj_verify.specs.Checking.{working_of, IsReady};
+ghost use Rattle.dj_verify.specs.Checking.{IsReady};
+ghost use Rattle.dj_effects.specs.Doing.{view_working};
 ghost use Rattle.dj_verify.specs.Landings.{LandsIn, Lands, IsTarget, IsLanding, AreLandings, HasLandings, target_in};
 
 use crate::subject::Subject;
 use dj_code::Handler;
+use dj_effects::Working;
 use dj_frames::{Frame, Slots, Tag};
 use dj_instructions::is_start;
 use dj_names::{ClassName, JType};
@@ -114,15 +116,15 @@ pub fn landings<'a, G: Goes>(
 }
 
 /// Whether a frame but for its stack goes into another.
-fn lands_in<G: Goes>(goes: &G, frame: &Frame, target: &Frame) -> bool
-    ensures lands { IsTrue result ↔ LandsIn (G.relation goes.now) (working_of frame.now) (view_frame target.now) }
+fn lands_in<G: Goes>(goes: &G, frame: &Working, target: &Frame) -> bool
+    ensures lands { IsTrue result ↔ LandsIn (G.relation goes.now) (view_working frame.now) (view_frame target.now) }
 {
     (target.unborn_this || !frame.unborn_this) && locals_go(goes, &frame.locals, &target.locals)
 }
 
 /// Whether what may be thrown in a frame goes to a handler.
-fn lands<G: Goes>(goes: &G, landing: &Landing<'_>, frame: &Frame) -> bool
-    ensures lands { IsTrue result ↔ Lands (G.relation goes.now) (working_of frame.now) (target_in landing.now) }
+fn lands<G: Goes>(goes: &G, landing: &Landing<'_>, frame: &Working) -> bool
+    ensures lands { IsTrue result ↔ Lands (G.relation goes.now) (view_working frame.now) (target_in landing.now) }
 {
     match landing.target {
         Some(target) => lands_in(goes, frame, target),
@@ -131,8 +133,8 @@ fn lands<G: Goes>(goes: &G, landing: &Landing<'_>, frame: &Frame) -> bool
 }
 
 /// Whether what may be thrown in a frame at a pc lands with each handler that spans it.
-fn land<G: Goes>(goes: &G, landings: &[Landing<'_>], pc: u32, frame: &Frame) -> bool
-    ensures land { IsTrue result ↔ All (λ landing. Covers landing.handler.now pc → Lands (G.relation goes.now) (working_of frame.now) (target_in landing)) landings.now }
+fn land<G: Goes>(goes: &G, landings: &[Landing<'_>], pc: u32, frame: &Working) -> bool
+    ensures land { IsTrue result ↔ All (λ landing. Covers landing.handler.now pc → Lands (G.relation goes.now) (view_working frame.now) (target_in landing)) landings.now }
 {
     for landing in landings {
         if landing.handler.start <= pc && pc < landing.handler.end && !lands(goes, landing, frame) {
@@ -143,9 +145,9 @@ fn land<G: Goes>(goes: &G, landings: &[Landing<'_>], pc: u32, frame: &Frame) -> 
 }
 
 /// Whether each handler that spans a pc takes what may be thrown there.
-pub fn handlers_take<G: Goes>(goes: &G, subject: &Subject<'_>, pc: u32, frame: &Frame) -> bool
+pub fn handlers_take<G: Goes>(goes: &G, subject: &Subject<'_>, pc: u32, frame: &Working) -> bool
     requires landings { HasLandings (G.relation goes.now) subject.now }
-    ensures take { IsTrue result ↔ All (λ handler. Covers handler pc → HandlerTakes (G.relation goes.now) (view_code subject.now.code.now) (working_of frame.now) handler) subject.now.code.now.handlers }
+    ensures take { IsTrue result ↔ All (λ handler. Covers handler pc → HandlerTakes (G.relation goes.now) (view_code subject.now.code.now) (view_working frame.now) handler) subject.now.code.now.handlers }
 {
     land(goes, subject.landings.as_slice(), pc, frame)
 }

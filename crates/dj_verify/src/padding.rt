@@ -4,7 +4,7 @@ ghost use Rattle.std.specs.Prelude.{◌≡◌, IfOk};
 ghost use Rattle.dj_class.specs.Views.{view_method};
 ghost use Rattle.dj_code.specs.MethodCode.{view_code};
 ghost use Rattle.dj_verify.specs.Rules.{padded, head_of, entry};
-ghost use Rattle.dj_verify.specs.Checking.{working_of};
+ghost use Rattle.dj_verify.specs.Frames.{working_of};
 
 use dj_class::Method;
 use dj_code::Code;

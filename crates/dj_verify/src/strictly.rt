@@ -1,33 +1,31 @@
 //! Whether a table of frames is one by Java's assignability too (JLS 4.10).
 
-ghost use Rattle.std.specs.Prelude.{◌≡◌, map, IfOk, IfErr, OnOk};
+ghost use Rattle.std.specs.Prelude.{IfErr, OnOk};
 ghost use Rattle.dj_instructions.specs.Instructions.{IsRising, view_instructions};
-ghost use Rattle.dj_frames.specs.Frames.{view_frame};
 ghost use Rattle.dj_code.specs.MethodCode.{view_code, view_typed};
 ghost use Rattle.dj_tags.specs.Laxly as strict;
-ghost use Rattle.dj_verify.specs.Table.{IsFrameTable};
+ghost use Rattle.dj_verify.specs.Checking.{HasTableSo};
 ghost use Rattle.dj_verify.specs.Tabled.{HasTable};
 ghost use Rattle.dj_verify.specs.Verified.{IsTyped, IsVerifyFault};
 
 use crate::fault::VerifyFault;
-use crate::verifying::frames_of;
+use crate::keeping::Passing;
+use crate::verifying::check_code;
 use dj_code::{Code, Typed};
 use dj_effects::Known;
-use dj_frames::Frame;
 use dj_headers::Headers;
-use dj_names::Items;
 use dj_tags::Strictly;
 use std::alloc::Global;
 
-/// The table of frames of code by what Java asks of references, or its first violation.
-fn strict_frames(alloc: Global, headers: &Headers, code: &Code) -> Result<Items<Frame>, VerifyFault>
+/// Answers that there is a table of frames for code by what Java asks of references. An error is its first violation.
+fn check_strictly(alloc: Global, headers: &Headers, code: &Code) -> Result<(), VerifyFault>
     requires rising { IsRising (view_instructions code.now.instructions) }
-    ensures table { IfOk result (λ frames. IsFrameTable (strict.Strictly headers.now) headers.now (view_code code.now) (map view_frame frames)) }
+    ensures table { OnOk result (HasTableSo (λ frames. Unit {0}) (strict.Strictly headers.now) headers.now (view_code code.now)) }
     ensures unverified { IfErr result (IsVerifyFault (strict.Strictly headers.now) headers.now (view_code code.now)) }
 {
     let known = Known::new(alloc)?;
     let strictly = Strictly { headers };
-    let found = frames_of(alloc, &strictly, &known, code);
+    let found = check_code(alloc, &strictly, &known, code, &mut Passing);
     let Strictly { headers: _ } = strictly;
     found
 }
@@ -40,8 +38,5 @@ pub fn strict(alloc: Global, headers: &Headers, typed: &Typed) -> Result<(), Ver
     ensures typed { OnOk result (IsTyped (strict.Strictly headers.now) headers.now (view_typed typed.now)) }
     ensures unverified { IfErr result (IsVerifyFault (strict.Strictly headers.now) headers.now (view_code typed.now.code)) }
 {
-    match strict_frames(alloc, headers, &typed.code) {
-        Ok(_frames) => Ok(()),
-        Err(fault) => Err(fault),
-    }
+    check_strictly(alloc, headers, &typed.code)
 }

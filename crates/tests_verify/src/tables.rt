@@ -2,7 +2,7 @@
 use crate::made::{Sketch, method};
 use dj_code::{Frame, Tag};
 use dj_headers::Headers;
-use dj_verify::{Rule, VerifyFault, strict, verify};
+use dj_verify::{Rule, Verifier, VerifyFault, strict, verify};
 use std::alloc::{AllocError, Global};
 use std::test::Fail;
 
@@ -11,6 +11,8 @@ use std::test::Fail;
 enum Told {
     /// So many frames.
     Typed(usize),
+    /// That there are frames.
+    Checked,
     Unverified(u32, Rule),
     /// Bytes that are no code.
     NoCode,
@@ -24,6 +26,21 @@ fn outcome(alloc: Global, sketch: &Sketch) -> Told {
     };
     match verify(alloc, &Headers::new(alloc), code) {
         Ok(typed) => Told::Typed(typed.frames.len()),
+        Err(VerifyFault::Unverified { pc, rule }) => Told::Unverified(pc, rule),
+        Err(VerifyFault::Memory(_)) => Told::NoMemory,
+    }
+}
+
+/// What is told of a method where no frame is kept.
+fn check_outcome(alloc: Global, sketch: &Sketch) -> Told {
+    let Ok(code) = method(alloc, sketch) else {
+        return Told::NoCode;
+    };
+    let Ok(verifier) = Verifier::new(alloc) else {
+        return Told::NoMemory;
+    };
+    match verifier.check(alloc, &Headers::new(alloc), &code) {
+        Ok(()) => Told::Checked,
         Err(VerifyFault::Unverified { pc, rule }) => Told::Unverified(pc, rule),
         Err(VerifyFault::Memory(_)) => Told::NoMemory,
     }
@@ -203,6 +220,18 @@ fn methods() -> [(Sketch, Told); 10] {
 fn a_table_or_the_first_violation_is_told(rt: HostRuntime) -> Result<(), Fail> {
     for (sketch, expected) in methods() {
         assert_eq!(rt; outcome(rt.alloc(), &sketch), expected);
+    }
+    Ok(())
+}
+
+#[test]
+fn the_same_is_told_where_no_frame_is_kept(rt: HostRuntime) -> Result<(), Fail> {
+    for (sketch, expected) in methods() {
+        let told = match expected {
+            Told::Typed(_) => Told::Checked,
+            other => other,
+        };
+        assert_eq!(rt; check_outcome(rt.alloc(), &sketch), told);
     }
     Ok(())
 }

@@ -12,8 +12,8 @@ use Rattle.dj_cli.proofs.FilesLemmas.{classes_of_files}
 use Rattle.dj_cli.proofs.RunLemmas.{as_many_paths, clean-then, ends-report, err-then, no-other, of_files, refused-then, report-then, text-then}
 use Rattle.dj_cli.proofs.program.print_files.Goals as goal
 
-pub tell-requires : goal.tell-requires
-tell-requires g c =
+pub tell-told-requires : goal.tell-told-requires
+tell-told-requires g c =
     let found = c.in_ok-found-in-Ok.found.found.items in
     let makes = c.in_ok-found-in-Ok.ensures.read in
     record {
@@ -26,42 +26,42 @@ tell-requires g c =
 pub returns-in_ok-found-in-Ok-clause-clean : goal.returns-in_ok-found-in-Ok-clause-clean
 returns-in_ok-found-in-Ok-clause-clean g c =
     let found = c.in_ok-found-in-Ok.found in
-    clean-then (of_files c.args.named.now c.in-Ok.contents found found.world (ToldAll false (g.T.Sink.taken c.args.text.now) (g.T.Sink.taken c.tell.new.text) (g.P.Sink.taken c.args.report.now) (g.P.Sink.taken c.tell.new.report)) c.in-Ok.ensures.loaded c.in-Ok.ensures.number c.in-Ok.ensures.library c.in_ok-found-in-Ok.ensures.unread c.in_ok-found-in-Ok.ensures.paths c.in_ok-found-in-Ok.ensures.read) c.tell.result c.tell.ensures.clean
+    clean-then (of_files c.args.named.now c.in-Ok.contents found found.world (ToldAll false (g.T.Sink.taken c.args.text.now) (g.T.Sink.taken c.tell-told.new.text) (g.P.Sink.taken c.args.report.now) (g.P.Sink.taken c.tell-told.new.report)) c.in-Ok.ensures.loaded c.in-Ok.ensures.number c.in-Ok.ensures.library c.in_ok-found-in-Ok.ensures.unread c.in_ok-found-in-Ok.ensures.paths c.in_ok-found-in-Ok.ensures.read) c.tell-told.result c.tell-told.ensures.clean
 
 pub returns-in_ok-found-in-Ok-clause-refused : goal.returns-in_ok-found-in-Ok-clause-refused
 returns-in_ok-found-in-Ok-clause-refused g c =
     let found = c.in_ok-found-in-Ok.found in
-    refused-then (of_files c.args.named.now c.in-Ok.contents found found.world (ToldAll true (g.T.Sink.taken c.args.text.now) (g.T.Sink.taken c.tell.new.text) (g.P.Sink.taken c.args.report.now) (g.P.Sink.taken c.tell.new.report)) c.in-Ok.ensures.loaded c.in-Ok.ensures.number c.in-Ok.ensures.library c.in_ok-found-in-Ok.ensures.unread c.in_ok-found-in-Ok.ensures.paths c.in_ok-found-in-Ok.ensures.read) c.tell.result c.tell.ensures.refused
+    refused-then (of_files c.args.named.now c.in-Ok.contents found found.world (ToldAll true (g.T.Sink.taken c.args.text.now) (g.T.Sink.taken c.tell-told.new.text) (g.P.Sink.taken c.args.report.now) (g.P.Sink.taken c.tell-told.new.report)) c.in-Ok.ensures.loaded c.in-Ok.ensures.number c.in-Ok.ensures.library c.in_ok-found-in-Ok.ensures.unread c.in_ok-found-in-Ok.ensures.paths c.in_ok-found-in-Ok.ensures.read) c.tell-told.result c.tell-told.ensures.refused
 
 pub returns-in_ok-found-in-Ok-clause-usage : goal.returns-in_ok-found-in-Ok-clause-usage
-returns-in_ok-found-in-Ok-clause-usage g c = no-other c.tell.result (λ kind. ⊥) (λ place. ⊤) (λ place. ⊤) c.tell.ensures.no_other
+returns-in_ok-found-in-Ok-clause-usage g c = no-other c.tell-told.result (λ kind. ⊥) (λ place. ⊤) (λ place. ⊤) c.tell-told.ensures.no_other
 
 pub returns-in_ok-found-in-Ok-clause-read : goal.returns-in_ok-found-in-Ok-clause-read
-returns-in_ok-found-in-Ok-clause-read g c = no-other c.tell.result (λ kind. ⊤) _ (λ place. ⊤) c.tell.ensures.no_other
+returns-in_ok-found-in-Ok-clause-read g c = no-other c.tell-told.result (λ kind. ⊤) _ (λ place. ⊤) c.tell-told.ensures.no_other
 
 pub returns-in_ok-found-in-Ok-clause-read_line : goal.returns-in_ok-found-in-Ok-clause-read_line
-returns-in_ok-found-in-Ok-clause-read_line g c = no-other c.tell.result (λ kind. ⊤) _ (λ place. ⊤) c.tell.ensures.no_other
+returns-in_ok-found-in-Ok-clause-read_line g c = no-other c.tell-told.result (λ kind. ⊤) _ (λ place. ⊤) c.tell-told.ensures.no_other
 
 pub returns-in_ok-found-in-Ok-clause-much : goal.returns-in_ok-found-in-Ok-clause-much
-returns-in_ok-found-in-Ok-clause-much g c = no-other c.tell.result (λ kind. ⊤) (λ place. ⊤) _ c.tell.ensures.no_other
+returns-in_ok-found-in-Ok-clause-much g c = no-other c.tell-told.result (λ kind. ⊤) (λ place. ⊤) _ c.tell-told.ensures.no_other
 
 pub returns-in_ok-found-in-Ok-clause-much_line : goal.returns-in_ok-found-in-Ok-clause-much_line
-returns-in_ok-found-in-Ok-clause-much_line g c = no-other c.tell.result (λ kind. ⊤) (λ place. ⊤) _ c.tell.ensures.no_other
+returns-in_ok-found-in-Ok-clause-much_line g c = no-other c.tell-told.result (λ kind. ⊤) (λ place. ⊤) _ c.tell-told.ensures.no_other
 
 pub returns-in_ok-found-in-Ok-clause-text_fault : goal.returns-in_ok-found-in-Ok-clause-text_fault
 returns-in_ok-found-in-Ok-clause-text_fault g c =
     let found = c.in_ok-found-in-Ok.found in
-    text-then (of_files c.args.named.now c.in-Ok.contents found found.world (ToldFront InText (g.T.Sink.taken c.args.text.now) (g.T.Sink.taken c.tell.new.text) (g.P.Sink.taken c.args.report.now) (g.P.Sink.taken c.tell.new.report)) c.in-Ok.ensures.loaded c.in-Ok.ensures.number c.in-Ok.ensures.library c.in_ok-found-in-Ok.ensures.unread c.in_ok-found-in-Ok.ensures.paths c.in_ok-found-in-Ok.ensures.read) c.tell.result c.tell.ensures.text_fault
+    text-then (of_files c.args.named.now c.in-Ok.contents found found.world (ToldFront InText (g.T.Sink.taken c.args.text.now) (g.T.Sink.taken c.tell-told.new.text) (g.P.Sink.taken c.args.report.now) (g.P.Sink.taken c.tell-told.new.report)) c.in-Ok.ensures.loaded c.in-Ok.ensures.number c.in-Ok.ensures.library c.in_ok-found-in-Ok.ensures.unread c.in_ok-found-in-Ok.ensures.paths c.in_ok-found-in-Ok.ensures.read) c.tell-told.result c.tell-told.ensures.text_fault
 
 pub returns-in_ok-found-in-Ok-clause-report_fault : goal.returns-in_ok-found-in-Ok-clause-report_fault
 returns-in_ok-found-in-Ok-clause-report_fault g c = λ raw.
     let found = c.in_ok-found-in-Ok.found in
-    report-then (λ told. inl (of_files c.args.named.now c.in-Ok.contents found found.world (ToldFront InLines (g.T.Sink.taken c.args.text.now) (g.T.Sink.taken c.tell.new.text) (g.P.Sink.taken c.args.report.now) (g.P.Sink.taken c.tell.new.report)) c.in-Ok.ensures.loaded c.in-Ok.ensures.number c.in-Ok.ensures.library c.in_ok-found-in-Ok.ensures.unread c.in_ok-found-in-Ok.ensures.paths c.in_ok-found-in-Ok.ensures.read told)) c.tell.result c.tell.ensures.report_fault
+    report-then (λ told. inl (of_files c.args.named.now c.in-Ok.contents found found.world (ToldFront InLines (g.T.Sink.taken c.args.text.now) (g.T.Sink.taken c.tell-told.new.text) (g.P.Sink.taken c.args.report.now) (g.P.Sink.taken c.tell-told.new.report)) c.in-Ok.ensures.loaded c.in-Ok.ensures.number c.in-Ok.ensures.library c.in_ok-found-in-Ok.ensures.unread c.in_ok-found-in-Ok.ensures.paths c.in_ok-found-in-Ok.ensures.read told)) c.tell-told.result c.tell-told.ensures.report_fault
 
 pub returns-in_ok-found-in-Ok-clause-memory : goal.returns-in_ok-found-in-Ok-clause-memory
 returns-in_ok-found-in-Ok-clause-memory g c =
     let found = c.in_ok-found-in-Ok.found in
-    err-then (λ told. inr (of_files c.args.named.now c.in-Ok.contents found found.world (ToldSome (g.T.Sink.taken c.args.text.now) (g.T.Sink.taken c.tell.new.text) (g.P.Sink.taken c.args.report.now) (g.P.Sink.taken c.tell.new.report)) c.in-Ok.ensures.loaded c.in-Ok.ensures.number c.in-Ok.ensures.library c.in_ok-found-in-Ok.ensures.unread c.in_ok-found-in-Ok.ensures.paths c.in_ok-found-in-Ok.ensures.read told)) c.tell.result c.tell.ensures.memory
+    err-then (λ told. inr (of_files c.args.named.now c.in-Ok.contents found found.world (ToldSome (g.T.Sink.taken c.args.text.now) (g.T.Sink.taken c.tell-told.new.text) (g.P.Sink.taken c.args.report.now) (g.P.Sink.taken c.tell-told.new.report)) c.in-Ok.ensures.loaded c.in-Ok.ensures.number c.in-Ok.ensures.library c.in_ok-found-in-Ok.ensures.unread c.in_ok-found-in-Ok.ensures.paths c.in_ok-found-in-Ok.ensures.read told)) c.tell-told.result c.tell-told.ensures.memory
 
 pub returns-in_ok-line-in-Err-Fault-clause-report_fault :
     goal.returns-in_ok-line-in-Err-Fault-clause-report_fault

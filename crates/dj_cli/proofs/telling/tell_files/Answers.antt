@@ -1,4 +1,4 @@
-use Rattle.std.proofs.Common.{◌≡◌, ◌<◌, [], ap, if◌then◌else◌, length, sym, ◌∙◌, subst, arith}
+use Rattle.std.proofs.Common.{false, refl, ◌≡◌, ◌<◌, [], ap, if◌then◌else◌, length, sym, ◌∙◌, subst, arith}
 use Rattle.std.specs.String.{string_bytes}
 use Rattle.std.proofs.lemmas.List.{length-map}
 use Rattle.std.proofs.lemmas.Result.{err_from_is_err_and}
@@ -6,7 +6,7 @@ use Rattle.dj_load.specs.Loading.{finds_of, found_of}
 use Rattle.dj_making.specs.MadeFiles.{summary_text}
 use Rattle.dj_cli.specs.Pieces.{IsOfFile}
 use Rattle.dj_cli.specs.Telling.{Tallies, source_of}
-use Rattle.dj_cli.proofs.TellingLemmas.{few_told, name_at, stops_at_end, stops_telling, told_all, told_more, told_none}
+use Rattle.dj_cli.proofs.TellingLemmas.{failed-from, few_told, name_at, stops_at_end, stops_telling, told_all, told_more, told_none}
 use Rattle.dj_cli.proofs.telling.tell_files.Goals as goal
 
 pub loop-place-init : goal.loop-place-init
@@ -17,6 +17,12 @@ loop-place-init g c = record {
   few_refused = omega (arith, ap (λ tally. tally.refused) c.no_tally-tally.ensures.tally);
   told = told_none (source_of c.args.named.now c.args.made) (finds_of c.args.files.now) c.args.files.now.world (g.T.Sink.taken c.args.text.now) (g.P.Sink.taken c.args.report.now) c.no_tally-tally.result c.no_tally-tally.ensures.tally;
 }
+
+pub returns-in_err-verifier-clause-stopped : goal.returns-in_err-verifier-clause-stopped
+returns-in_err-verifier-clause-stopped g c =
+    let p = err_from_is_err_and c.from_residual.result c.from_residual.ensures.1 in
+    let none = told_none (source_of c.args.named.now c.args.made) (finds_of c.args.files.now) c.args.files.now.world (g.T.Sink.taken c.args.text.now) (g.P.Sink.taken c.args.report.now) (record { has_line = false; printed = 0; refused = 0 }) refl in
+    rw (p.1, p.2) (0, false, none.told)
 
 pub tell_file-requires : goal.tell_file-requires
 tell_file-requires g c =
@@ -35,9 +41,14 @@ returns-in_err-one-clause-stopped g c =
     let in_found : i < length found = omega arith in
     let at_name = name_at string_bytes named i c.index-named-place.result in_named c.index-named-place.is in
     let at_file = name_at found_of found i c.index-found-place.result in_found (rw c.as_slice-found.ensures.value at c.index-found-place.is) in
-    let p = err_from_is_err_and c.from_residual.result c.from_residual.ensures.1 in
+    let p = err_from_is_err_and c.from_residual-in_err-one.result c.from_residual-in_err-one.ensures.1 in
     rw (p.1, p.2)
     (stops_telling (source_of named c.args.made) (finds_of c.args.files.now) c.args.files.now.world i c.loop-place.tally (g.T.Sink.taken c.args.text.now) (g.T.Sink.taken c.loop-place.text) (g.T.Sink.taken c.tell_file.new.text) (g.P.Sink.taken c.args.report.now) (g.P.Sink.taken c.loop-place.report) (g.P.Sink.taken c.tell_file.new.report) c.loop-place.invariant.told (string_bytes c.index-named-place.result) (found_of c.index-found-place.result) at_name at_file c.in_err-one.field-0.0 (rw c.as_str.ensures.value at c.in_err-one.ensures.stopped))
+
+pub returns-in_err-one-clause-failed : goal.returns-in_err-one-clause-failed
+returns-in_err-one-clause-failed g c =
+    let p = err_from_is_err_and c.from_residual-in_err-one.result c.from_residual-in_err-one.ensures.1 in
+    rw (p.1, p.2) (failed-from c.in_err-one.field-0.0 (g.T.Sink.faults c.args.text.now) (g.T.Sink.faults c.loop-place.text) (g.T.Sink.faults c.tell_file.new.text) (g.P.Sink.faults c.args.report.now) (g.P.Sink.faults c.loop-place.report) (g.P.Sink.faults c.tell_file.new.report) c.loop-place.invariant.text_falls c.loop-place.invariant.report_falls c.in_err-one.ensures.failed)
 
 pub both-tally-requires-clause-printed : goal.both-tally-requires-clause-printed
 both-tally-requires-clause-printed g c =
@@ -92,6 +103,11 @@ returns-in_err-end-clause-stopped g c =
     let p = err_from_is_err_and c.from_residual-in_err-end.result c.from_residual-in_err-end.ensures.1 in
     rw (p.1, p.2)
     (stops_at_end source found world c.loop-place.tally (g.T.Sink.taken c.args.text.now) (g.T.Sink.taken c.loop-place.text) (g.T.Sink.taken c.tell_last.new.text) (g.P.Sink.taken c.args.report.now) (g.P.Sink.taken c.loop-place.report) (g.P.Sink.taken c.tell_last.new.report) told c.in_ok-last.last text c.in_ok-last.ensures.lines c.in_err-end.field-0.0 c.in_err-end.ensures.stopped)
+
+pub returns-in_err-end-clause-failed : goal.returns-in_err-end-clause-failed
+returns-in_err-end-clause-failed g c =
+    let p = err_from_is_err_and c.from_residual-in_err-end.result c.from_residual-in_err-end.ensures.1 in
+    rw (p.1, p.2) (failed-from c.in_err-end.field-0.0 (g.T.Sink.faults c.args.text.now) (g.T.Sink.faults c.loop-place.text) (g.T.Sink.faults c.tell_last.new.text) (g.P.Sink.faults c.args.report.now) (g.P.Sink.faults c.loop-place.report) (g.P.Sink.faults c.tell_last.new.report) c.loop-place.invariant.text_falls c.loop-place.invariant.report_falls c.in_err-end.ensures.failed)
 
 pub returns-clause-told : goal.returns-clause-told
 returns-clause-told g c =

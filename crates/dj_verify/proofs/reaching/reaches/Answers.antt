@@ -3,7 +3,7 @@ use Rattle.dj_instructions.specs.Instructions.{view_instructions}
 use Rattle.dj_frames.specs.Frames.{view_frame}
 use Rattle.dj_code.specs.MethodCode.{view_code}
 use Rattle.dj_code.specs.Targets.{IsStart}
-use Rattle.dj_verify.specs.Checking.{working_of}
+use Rattle.dj_verify.specs.Frames.{working_of}
 use Rattle.dj_verify.proofs.ReachedFrames.{reaches_given}
 use Rattle.dj_verify.proofs.reaching.reaches.Goals as goal
 

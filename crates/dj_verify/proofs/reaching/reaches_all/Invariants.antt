@@ -1,7 +1,7 @@
 use Rattle.std.proofs.Common.{ℕ, ◌<◌, slice_index_or}
 use Rattle.dj_code.specs.MethodCode.{view_code}
 use Rattle.dj_verify.specs.Rules.{Reaches}
-use Rattle.dj_verify.specs.Checking.{working_of}
+use Rattle.dj_verify.specs.Frames.{working_of}
 use Rattle.dj_verify.proofs.reaching.reaches_all.Given as goal
 
 abbrev pub invariant-loop-target : goal.invariant-loop-target

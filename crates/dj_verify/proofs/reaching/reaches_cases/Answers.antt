@@ -3,7 +3,7 @@ use Rattle.std.proofs.lemmas.Bool.{false≢true}
 use Rattle.dj_code.specs.MethodCode.{view_code}
 use Rattle.dj_code.proofs.TargetLists.{cases_right, cases_wrong}
 use Rattle.dj_verify.specs.Rules.{Reaches}
-use Rattle.dj_verify.specs.Checking.{working_of}
+use Rattle.dj_verify.specs.Frames.{working_of}
 use Rattle.dj_verify.proofs.reaching.reaches_cases.Goals as goal
 
 pub returns-then-not-reaches : goal.returns-then-not-reaches

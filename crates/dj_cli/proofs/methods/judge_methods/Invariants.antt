@@ -5,7 +5,7 @@ use Rattle.dj_syntax.specs.Trees.{view_body}
 use Rattle.dj_straight.specs.DeclaredMethods.{Holds}
 use Rattle.dj_cli.specs.Lines.{lines_bytes}
 use Rattle.dj_cli.specs.Methods.{AreJudged}
-use Rattle.dj_cli.proofs.methods.judge_each.Given as goal
+use Rattle.dj_cli.proofs.methods.judge_methods.Given as goal
 
 abbrev pub invariant-loop-at : goal.invariant-loop-at
 invariant-loop-at l = record {

@@ -4,7 +4,7 @@ use Rattle.dj_names.specs.Types.{view_descriptor}
 use Rattle.dj_names.specs.Descriptors.{spell_descriptor}
 use Rattle.dj_names.specs.Shown.{show_units}
 use Rattle.dj_outer.proofs.PutsLemmas.{puts-on, puts-stop, puts-then}
-use Rattle.dj_report.proofs.report.put_method_parts.Goals as goal
+use Rattle.dj_report.proofs.report.put_method_line.Goals as goal
 
 pub returns-in_err-put_units : goal.returns-in_err-put_units
 returns-in_err-put_units g c =

@@ -8,8 +8,8 @@ use Rattle.dj_cli.specs.Methods.{IsToldOf}
 use Rattle.dj_load.proofs.LoadingLemmas.{take_map_more}
 use Rattle.dj_cli.proofs.MethodsLemmas.{judged_bare, judged_body, judged_line}
 use Rattle.dj_cli.proofs.TellingLemmas.{lines_bytes-push}
-use Rattle.dj_cli.proofs.methods.judge_each.Goals as goal
-use Rattle.dj_cli.proofs.methods.judge_each.Goals.{in-Body+in_ok-push-in-Body, in-Bare+in_ok-push-in-Bare, in-Line+in_ok-push-in-Line+in_ok-push-in-Line-2}
+use Rattle.dj_cli.proofs.methods.judge_methods.Goals as goal
+use Rattle.dj_cli.proofs.methods.judge_methods.Goals.{in-Body+in_ok-push-in-Body, in-Bare+in_ok-push-in-Bare, in-Line+in_ok-push-in-Line+in_ok-push-in-Line-2}
 
 pub loop-at-preserved : goal.loop-at-preserved
 loop-at-preserved c =
