@@ -7,7 +7,7 @@ use Rattle.std.specs.declared.alloc.AllocError.{AllocError}
 use Rattle.dj_words.specs.declared.order.UsageKind.{UsageKind}
 use Rattle.dj_report.specs.declared.status.Status.{Status}
 use Rattle.dj_report.specs.declared.status.Status.TheVariants.{Clean, Refused, Usage, ReadFault, TextFault, ReportFault, TooMuch}
-use Rattle.dj_report.specs.Status.{MatchEnd, OnClean, OnRefused, OnTextFault, OnReportFault}
+use Rattle.dj_report.specs.Status.{MatchEnd, OnClean, OnRefused, OnTextFault, OnReportFault, UnlessReadFault, UnlessReportFault, UnlessTextFault}
 use Rattle.dj_world.specs.Worlds.{WorldOf}
 use Rattle.std.specs.String.{string_bytes}
 use Rattle.std.specs.Option.{option_map}
@@ -26,6 +26,40 @@ use Rattle.dj_cli.specs.Run.{EndsSo}
 pub ends-report : (ended status : Status) (put cut R : Type 0) → OnReportFault (Ok status) R → (cut → R) → EndsSo ended status put cut → OnReportFault (Ok ended) R
 ends-report ended status put cut R at_status of_cut (inl ends) = subst (λ s. OnReportFault (Ok s) R) (sym ends.0) at_status
 ends-report ended status put cut R at_status of_cut (inr ends) = subst (λ s. OnReportFault (Ok s) R) (sym ends.0) (of_cut ends.1)
+
+-- it counts a fault of the report only so
+pub ends-calm : (ended status : Status) (P : Type 0) → (P → UnlessReportFault (Ok status) P) → EndsSo ended status P ⊤ → UnlessReportFault (Ok ended) P
+ends-calm ended status P calm (inl ends) = subst (λ s. UnlessReportFault (Ok s) P) (sym ends.0) (calm ends.1)
+ends-calm ended status P calm (inr ends) = subst (λ s. UnlessReportFault (Ok s) P) (sym ends.0) (tt, tt)
+
+-- of one that ends so, or with a fault of the report, a fact of other ends holds
+pub ends-read : (ended status : Status) (put cut P : Type 0) → UnlessReadFault (Ok status) P → EndsSo ended status put cut → UnlessReadFault (Ok ended) P
+ends-read ended status put cut P at_status (inl ends) = subst (λ s. UnlessReadFault (Ok s) P) (sym ends.0) at_status
+ends-read ended status put cut P at_status (inr ends) = subst (λ s. UnlessReadFault (Ok s) P) (sym ends.0) tt
+
+-- what holds anyway holds of each end
+ends-any : {P text report : Type 0} {Reads : ℕ → Type 0} (result : Result Status AllocError) → P → ((place : ℕ) → Reads place) → text → report → MatchEnd result P P (λ kind. P) Reads text report (λ place. P)
+ends-any (Ok Clean) holds reads text report = holds
+ends-any (Ok Refused) holds reads text report = holds
+ends-any (Ok (Usage kind)) holds reads text report = holds
+ends-any (Ok (ReadFault place)) holds reads text report = reads place
+ends-any (Ok TextFault) holds reads text report = text
+ends-any (Ok ReportFault) holds reads text report = report
+ends-any (Ok (TooMuch place)) holds reads text report = holds
+ends-any (Err error) holds reads text report = tt
+
+stops-any : {P : Type 0} (result : Result Status AllocError) → P → OnErr result P
+stops-any (Ok status) holds = tt
+stops-any (Err error) holds = holds
+
+pub read-calm : {P : Type 0} (result : Result Status AllocError) → P → UnlessReadFault result P
+read-calm result holds = ends-any result holds (λ place. tt) holds tt
+
+pub text-calm : {P : Type 0} (result : Result Status AllocError) → P → UnlessTextFault result P
+text-calm result holds = (ends-any result holds (λ place. holds) tt holds, stops-any result holds)
+
+pub report-calm : {P : Type 0} (result : Result Status AllocError) → P → UnlessReportFault result P
+report-calm result holds = (ends-any result holds (λ place. holds) holds tt, stops-any result holds)
 
 -- as many contents were loaded as there are names
 as_many_contents : (contents : List (Vec ℕ Global)) (names : List (String Global)) → length contents ≡ length names → length (contents_of contents) ≡ length (map string_bytes names)

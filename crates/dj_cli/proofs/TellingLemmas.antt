@@ -32,7 +32,7 @@ use Rattle.dj_load.specs.HeldFiles.{FileIs, Finds, IsClass, IsClash, IsBroken}
 use Rattle.dj_making.specs.MadeFiles.{summary_text}
 use Rattle.dj_world.specs.Worlds.{WorldOf}
 use Rattle.dj_cli.specs.Lines.{subject_bytes, line_bytes, lines_bytes}
-use Rattle.dj_cli.specs.Telling.{StoppedTelling, Tallies, TellsPiece, CutsPiece, StopsPiece}
+use Rattle.dj_cli.specs.Telling.{IsCalm, StoppedTelling, Tallies, TellsPiece, CutsPiece, StopsPiece}
 use Rattle.dj_cli.proofs.MethodsLemmas.{counted}
 
 -- the item at a place, seen by a function
@@ -215,6 +215,12 @@ pub failed-from : (stop : TellStop) (text_first text_old text_new report_first r
 failed-from Text text_first text_old text_new report_first report_old report_new text report rose = rose-from text_first text_old text_new text rose
 failed-from Report text_first text_old text_new report_first report_old report_new text report rose = rose-from report_first report_old report_new report rose
 failed-from (Memory error) text_first text_old text_new report_first report_old report_new text report rose = tt
+
+-- where no fault was counted before, what stopped without others did so from an earlier count on
+pub calm-stops : (X Y : Type 0) {text_first text_old report_first report_old : ℕ} (text_new report_new : ℕ) (stop : TellStop) → text_old ≡ text_first → report_old ≡ report_first → IsCalm {X = X} (Err stop) text_old text_new report_old report_new → IsCalm {X = Y} (Err stop) text_first text_new report_first report_new
+calm-stops X Y text_new report_new Text text report calm = calm ∙ report
+calm-stops X Y text_new report_new Report text report calm = calm ∙ text
+calm-stops X Y text_new report_new (Memory error) text report calm = (calm.0 ∙ text, calm.1 ∙ report)
 
 -- what a line names has bytes
 subject-some : (class : List ℕ) (named : Subject) → subject_bytes class named ≢ []

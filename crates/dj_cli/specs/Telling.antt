@@ -1,5 +1,5 @@
 -- How telling the pieces of files ends.
-use Rattle.std.specs.Prelude.{◌≡◌, ◌≢◌, ℕ, Bool, List, [], Option, MatchBool, String, map}
+use Rattle.std.specs.Prelude.{◌≡◌, ◌≢◌, ℕ, Bool, List, [], Option, Result, Ok, Err, MatchBool, String, map}
 use Rattle.std.specs.String.{string_bytes}
 use Rattle.std.specs.declared.alloc.Global.{Global}
 use Rattle.std.specs.Io.KnownBytes.{append_known}
@@ -15,6 +15,13 @@ abbrev pub StoppedTelling : TellStop → Type 0 → Type 0 → Type 0 → Type 0
 StoppedTelling Text text report memory = text
 StoppedTelling Report text report memory = report
 StoppedTelling (Memory error) text report memory = memory
+
+-- no fault was counted, but by the text where it could not be written, and by the report where it could not
+abbrev pub IsCalm : {X : Type 0} → Result X TellStop → ℕ → ℕ → ℕ → ℕ → Type 0
+IsCalm (Ok done) text_old text_new report_old report_new = (text_new ≡ text_old) × (report_new ≡ report_old)
+IsCalm (Err Text) text_old text_new report_old report_new = report_new ≡ report_old
+IsCalm (Err Report) text_old text_new report_old report_new = text_new ≡ text_old
+IsCalm (Err (Memory error)) text_old text_new report_old report_new = (text_new ≡ text_old) × (report_new ≡ report_old)
 
 -- a piece of this kind was told, whole, with what there is of it to count
 pub record TellsPiece (Is : Piece → Type 0) (tally : Tally) (text_old text_new report_old report_new : Option (List ℕ)) : Type 0 where

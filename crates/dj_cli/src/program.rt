@@ -6,7 +6,7 @@ ghost use Rattle.std.specs.String.{string_bytes};
 ghost use Rattle.dj_outer.specs.Count.{Rose};
 ghost use Rattle.dj_outer.specs.Sink.{TakesPrefix};
 ghost use Rattle.std.specs.Option.{option_map};
-ghost use Rattle.dj_report.specs.Status.{MatchEnd, OnClean, OnRefused, IfUsage, IfReadFault, OnTextFault, OnReportFault, IfTooMuch, OnLoaded};
+ghost use Rattle.dj_report.specs.Status.{MatchEnd, OnClean, OnRefused, IfUsage, IfReadFault, OnTextFault, OnReportFault, IfTooMuch, OnLoaded, UnlessReadFault, UnlessReportFault, UnlessTextFault};
 ghost use Rattle.dj_report.specs.Report.{Line};
 ghost use Rattle.dj_cli.specs.Output.{InLines, InText, OfFiles, OfMade, StopsForMemory, ToldAll, ToldFront, ToldSome};
 ghost use Rattle.dj_words.specs.Orders.{Files, order_of};
@@ -30,6 +30,7 @@ use std::mem;
 /// Puts one last line, and ends with this status.
 fn last_line<P: Sink>(report: &mut P, line: &[u8], status: Status) -> Status
     ensures ends { EndsSo result status (P.taken report.new ≡ append_known (P.taken report.old) line.now) (Rose (P.faults report.old) (P.faults report.new) × TakesPrefix (P.taken report.old) (P.taken report.new) line.now) }
+    ensures calm { EndsSo result status (P.faults report.new ≡ P.faults report.old) ⊤ }
     ensures never_falls { P.faults report.old ≤ P.faults report.new }
 {
     match report.put(line) {
@@ -59,6 +60,8 @@ fn tell<T: Sink, P: Sink>(
     ensures report_fault { OnReportFault result (ToldFront InLines (T.taken text.old) (T.taken text.new) (P.taken report.old) (P.taken report.new) (source_of named.now made) (finds_of files.now) files.now.world) }
     ensures memory { OnErr result (ToldSome (T.taken text.old) (T.taken text.new) (P.taken report.old) (P.taken report.new) (source_of named.now made) (finds_of files.now) files.now.world) }
     ensures no_other { MatchEnd result ⊤ ⊤ (λ _. ⊥) (λ _. ⊥) ⊤ ⊤ (λ _. ⊥) }
+    ensures text_calm { UnlessTextFault result (T.faults text.new ≡ T.faults text.old) }
+    ensures report_calm { UnlessReportFault result (P.faults report.new ≡ P.faults report.old) }
 {
     match tell_files(alloc, named, made, files, text, report) {
         Ok(false) => Ok(Status::Clean),
@@ -96,6 +99,11 @@ fn print_files<F: Files, T: Sink, P: Sink>(
     ensures asked { OfDue (F.held files.old) (map string_bytes named.now) (option_map string_bytes list.now) (AsksFront (F.asked files.old) (F.asked files.new)) }
     ensures asked_all { OnLoaded result (OfDue (F.held files.old) (map string_bytes named.now) (option_map string_bytes list.now) (λ due. F.asked files.new ≡ asked_with (F.asked files.old) due)) }
     ensures kept { F.held files.new ≡ F.held files.old }
+
+    // Where no fault is counted.
+    ensures read_calm { UnlessReadFault result (F.faults files.new ≡ F.faults files.old) }
+    ensures text_calm { UnlessTextFault result (T.faults text.new ≡ T.faults text.old) }
+    ensures report_calm { UnlessReportFault result (P.faults report.new ≡ P.faults report.old) }
 {
     match load_order(alloc, named, list, files) {
         Ok(contents) => {
@@ -133,6 +141,8 @@ fn print_made<T: Sink, P: Sink>(
     ensures report_fault { OnReportFault result (OfMade number (ToldFront InLines (T.taken text.old) (T.taken text.new) (P.taken report.old) (P.taken report.new))) }
     ensures memory { OnErr result (StopsForMemory (T.taken text.old) (T.taken text.new) (P.taken report.old) (P.taken report.new) (OfMade number (ToldSome (T.taken text.old) (T.taken text.new) (P.taken report.old) (P.taken report.new)))) }
     ensures no_other { MatchEnd result ⊤ ⊤ (λ _. ⊥) (λ _. ⊥) ⊤ ⊤ (λ _. ⊥) }
+    ensures text_calm { UnlessTextFault result (T.faults text.new ≡ T.faults text.old) }
+    ensures report_calm { UnlessReportFault result (P.faults report.new ≡ P.faults report.old) }
 {
     let named = made_names(alloc, number)?;
     let contents = made_files(alloc, number)?;
@@ -177,6 +187,11 @@ pub fn run<F: Files, T: Sink, P: Sink>(
     ensures asked { OfDue (F.held files.old) (named_of (order_of (map string_bytes words.now))) (list_of (order_of (map string_bytes words.now))) (AsksFront (F.asked files.old) (F.asked files.new)) }
     ensures asked_all { OnLoaded result (OfDue (F.held files.old) (named_of (order_of (map string_bytes words.now))) (list_of (order_of (map string_bytes words.now))) (λ due. F.asked files.new ≡ asked_with (F.asked files.old) due)) }
     ensures kept { F.held files.new ≡ F.held files.old }
+
+    // Where no fault is counted.
+    ensures read_calm { UnlessReadFault result (F.faults files.new ≡ F.faults files.old) }
+    ensures text_calm { UnlessTextFault result (T.faults text.new ≡ T.faults text.old) }
+    ensures report_calm { UnlessReportFault result (P.faults report.new ≡ P.faults report.old) }
 {
     match read_words(alloc, words) {
         Ok(Order::Files { named, list, .. }) => {

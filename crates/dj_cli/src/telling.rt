@@ -10,7 +10,7 @@ ghost use Rattle.dj_load.specs.Loading.{finds_of, found_of};
 ghost use Rattle.dj_cli.specs.Output.{InLines, InText, IsClassPiece, IsFilePiece, ToldAll, ToldFront, ToldSome};
 ghost use Rattle.dj_load.specs.HeldFiles.{IsBroken, IsClash, most_files};
 ghost use Rattle.dj_cli.specs.Pieces.{IsOfFile, end_piece, piece_of, refused_piece, report_bytes, text_bytes};
-ghost use Rattle.dj_cli.specs.Telling.{StoppedTelling, StopsPiece, TellsPiece, source_of};
+ghost use Rattle.dj_cli.specs.Telling.{IsCalm, StoppedTelling, StopsPiece, TellsPiece, source_of};
 
 use crate::endings::put_lines;
 use crate::last::{LastPiece, last_piece};
@@ -90,6 +90,7 @@ fn tell_printed<T: Sink, P: Sink>(
     // What the call leaves.
     ensures text_falls { T.faults text.old ≤ T.faults text.new }
     ensures report_falls { P.faults report.old ≤ P.faults report.new }
+    ensures calm { IsCalm result (T.faults text.old) (T.faults text.new) (P.faults report.old) (P.faults report.new) }
 {
     if let Err(Failed) = put_text(text, piece) {
         return Err(TellStop::Text);
@@ -116,6 +117,7 @@ fn tell_refused<P: Sink>(
     ensures stopped { (text : Option (List ℕ)) → IfErr result (λ stop. StopsPiece (λ told. told ≡ refused_piece class.now cause.now methods) stop text text (P.taken report.old) (P.taken report.new)) }
     ensures failed { IfErr result (λ stop. StoppedTelling stop ⊥ (Rose (P.faults report.old) (P.faults report.new)) (Unit {0})) }
     ensures report_falls { P.faults report.old ≤ P.faults report.new }
+    ensures calm { (faults : ℕ) → IsCalm result faults faults (P.faults report.old) (P.faults report.new) }
 {
     let tail = refused_class_tail(alloc, cause)?;
     match put_refused_class_line(report, class, tail.as_str()) {
@@ -141,6 +143,7 @@ fn tell_class<T: Sink, P: Sink>(
     // What the call leaves.
     ensures text_falls { T.faults text.old ≤ T.faults text.new }
     ensures report_falls { P.faults report.old ≤ P.faults report.new }
+    ensures calm { IsCalm result (T.faults text.old) (T.faults text.new) (P.faults report.old) (P.faults report.new) }
 {
     match piece_of_class(alloc, world, verifier, class)? {
         ClassTold::Printed(piece) => tell_printed(&class.this_class, &piece, text, report),
@@ -163,6 +166,7 @@ fn tell_broken<P: Sink>(
     ensures stopped { (world : WorldOf) (text : Option (List ℕ)) → IfErr result (λ stop. StopsPiece (IsFilePiece world path.now (IsBroken kind offset)) stop text text (P.taken report.old) (P.taken report.new)) }
     ensures failed { IfErr result (λ stop. StoppedTelling stop ⊥ (Rose (P.faults report.old) (P.faults report.new)) (Unit {0})) }
     ensures report_falls { P.faults report.old ≤ P.faults report.new }
+    ensures calm { (faults : ℕ) → IsCalm result faults faults (P.faults report.old) (P.faults report.new) }
 {
     let line = broken_line(alloc, path, kind, offset)?;
     match put_piece(report, line.as_slice()) {
@@ -182,6 +186,7 @@ fn tell_clash<P: Sink>(
     ensures stopped { (world : WorldOf) (text : Option (List ℕ)) → IfErr result (λ stop. StopsPiece (IsFilePiece world path.now (IsClash kind)) stop text text (P.taken report.old) (P.taken report.new)) }
     ensures failed { IfErr result (λ stop. StoppedTelling stop ⊥ (Rose (P.faults report.old) (P.faults report.new)) (Unit {0})) }
     ensures report_falls { P.faults report.old ≤ P.faults report.new }
+    ensures calm { (faults : ℕ) → IsCalm result faults faults (P.faults report.old) (P.faults report.new) }
 {
     let line = clash_line(alloc, path, kind)?;
     match put_piece(report, line.as_slice()) {
@@ -208,6 +213,7 @@ fn tell_file<T: Sink, P: Sink>(
     // What the call leaves.
     ensures text_falls { T.faults text.old ≤ T.faults text.new }
     ensures report_falls { P.faults report.old ≤ P.faults report.new }
+    ensures calm { IsCalm result (T.faults text.old) (T.faults text.new) (P.faults report.old) (P.faults report.new) }
 {
     match found {
         Found::Class(class) => tell_class(alloc, world, verifier, class, text, report),
@@ -239,6 +245,7 @@ fn tell_last<T: Sink, P: Sink>(
     // What the call leaves.
     ensures text_falls { T.faults text.old ≤ T.faults text.new }
     ensures report_falls { P.faults report.old ≤ P.faults report.new }
+    ensures calm { IsCalm result (T.faults text.old) (T.faults text.new) (P.faults report.old) (P.faults report.new) }
 {
     match put_some(text, piece.text.as_slice()) {
         Ok(()) => {}
@@ -275,6 +282,7 @@ pub fn tell_files<T: Sink, P: Sink>(
     // What the call leaves.
     ensures text_falls { T.faults text.old ≤ T.faults text.new }
     ensures report_falls { P.faults report.old ≤ P.faults report.new }
+    ensures calm { IsCalm result (T.faults text.old) (T.faults text.new) (P.faults report.old) (P.faults report.new) }
 {
     let verifier = Verifier::new(alloc)?;
     let found = files.found.as_slice();

@@ -1,5 +1,5 @@
 -- How loading the files of an order goes on and ends, and what is found of each file.
-use Rattle.std.specs.Prelude.{◌≡◌, ◌⊎◌, ℕ, ◌≤◌, List, ◌++◌, length, map, sum_by, Option, IfSome, Vec}
+use Rattle.std.specs.Prelude.{◌≡◌, ◌⊎◌, ℕ, ◌≤◌, List, ◌++◌, length, map, sum_by, Option, IfSome, Result, Ok, Err, Vec, ⊤}
 use Rattle.std.specs.String.{string_bytes}
 use Rattle.std.specs.Option.{option_map, option_to_list}
 use Rattle.std.specs.declared.alloc.Global.{Global}
@@ -43,6 +43,13 @@ abbrev pub Stopped : LoadStop → (ℕ → Type 0) → (ℕ → Type 0) → Type
 Stopped (Fault place) Fails IsOver = Fails place
 Stopped (Over place) Fails IsOver = IsOver place
 Stopped (Memory error) Fails IsOver = Unit {0}
+
+-- a fact of loading, however it ends but by a fault
+abbrev pub UnlessFault : {X : Type 0} → Result X LoadStop → Type 0 → Type 0
+UnlessFault (Ok done) P = P
+UnlessFault (Err (Fault place)) P = ⊤
+UnlessFault (Err (Over place)) P = P
+UnlessFault (Err (Memory error)) P = P
 
 -- the loading of the files of these names stopped
 pub record StopsLoading (held : Option Files) (asked_old asked_new : Option (List (List ℕ))) (faults_old faults_new : ℕ) (names : List (List ℕ)) (stop : LoadStop) : Type 0 where

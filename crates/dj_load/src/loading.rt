@@ -5,7 +5,7 @@ ghost use Rattle.std.specs.String.{string_bytes};
 ghost use Rattle.std.specs.Option.{option_map};
 ghost use Rattle.dj_load.specs.HeldFiles.{OfDue, most_files, paths_in};
 ghost use Rattle.dj_load.specs.Loads.{AsksFront, IsTooMuch, ReadFails, asked_with};
-ghost use Rattle.dj_load.specs.Loading.{AreLoaded, IsWithin, LoadsLibrary, LoadsMore, Stopped, StopsAfter, StopsLibrary, contents_of, paths_of};
+ghost use Rattle.dj_load.specs.Loading.{AreLoaded, IsWithin, LoadsLibrary, LoadsMore, Stopped, StopsAfter, StopsLibrary, UnlessFault, contents_of, paths_of};
 
 use crate::loads::{LoadStop, Loads, MOST_FILES};
 use dj_outer::Files;
@@ -63,6 +63,7 @@ fn load_all<F: Files>(
     // What the call leaves.
     ensures kept { F.held files.new ≡ F.held files.old }
     ensures never_falls { F.faults files.old ≤ F.faults files.new }
+    ensures calm { UnlessFault result (F.faults files.new ≡ F.faults files.old) }
 {
     let mut contents = Vec::new(alloc);
     for name in named {
@@ -90,6 +91,7 @@ fn load_listed<F: Files>(
     // What the call leaves.
     ensures kept { F.held files.new ≡ F.held files.old }
     ensures never_falls { F.faults files.old ≤ F.faults files.new }
+    ensures calm { UnlessFault result (F.faults files.new ≡ F.faults files.old) }
 {
     let paths = paths_in(alloc, text)?;
     let contents = load_all(alloc, loads, paths.as_slice(), files)?;
@@ -116,6 +118,7 @@ fn load_library<F: Files>(
     // What the call leaves.
     ensures kept { F.held files.new ≡ F.held files.old }
     ensures never_falls { F.faults files.old ≤ F.faults files.new }
+    ensures calm { UnlessFault result (F.faults files.new ≡ F.faults files.old) }
 {
     let bytes = loads.load(alloc, list, files)?;
     match str::from_utf8(bytes.as_slice()) {
@@ -157,6 +160,7 @@ fn load_behind<F: Files>(
     // What the call leaves.
     ensures kept { F.held files.new ≡ F.held files.old }
     ensures never_falls { F.faults files.old ≤ F.faults files.new }
+    ensures calm { UnlessFault result (F.faults files.new ≡ F.faults files.old) }
 {
     match list {
         Some(list) => load_library(alloc, loads, list.as_str(), files),
@@ -183,6 +187,7 @@ pub fn load_order<F: Files>(
     ensures asked { OfDue (F.held files.old) (map string_bytes named.now) (option_map string_bytes list.now) (AsksFront (F.asked files.old) (F.asked files.new)) }
     ensures kept { F.held files.new ≡ F.held files.old }
     ensures never_falls { F.faults files.old ≤ F.faults files.new }
+    ensures calm { UnlessFault result (F.faults files.new ≡ F.faults files.old) }
 {
     let mut loads = Loads::new();
     let contents = load_all(alloc, &mut loads, named, files)?;

@@ -4,7 +4,7 @@ ghost use Rattle.std.specs.Prelude.{◌≡◌, ◌≤◌, ◌<◌, ◌+◌, ◌�
 ghost use Rattle.dj_outer.specs.Count.{Rose};
 ghost use Rattle.dj_outer.specs.Files.{HasFile, with_asked};
 ghost use Rattle.dj_load.specs.HeldFiles.{most_bytes, most_together};
-ghost use Rattle.dj_load.specs.Loading.{IsWithin, LoadsMore, StoppedAt, StopsAfter};
+ghost use Rattle.dj_load.specs.Loading.{IsWithin, LoadsMore, StoppedAt, StopsAfter, UnlessFault};
 
 use dj_outer::{Files, LoadFault, Loaded};
 use std::alloc::{AllocError, AllocFailed, Global};
@@ -75,6 +75,7 @@ fn load_one<F: Files>(
     // What the call leaves.
     ensures kept { F.held files.new ≡ F.held files.old }
     ensures never_falls { F.faults files.old ≤ F.faults files.new }
+    ensures calm { UnlessFault result (F.faults files.new ≡ F.faults files.old) }
 {
     match files.load(alloc, name, MOST_BYTES) {
         Ok(Loaded::Whole(bytes)) => {
@@ -117,6 +118,7 @@ impl Loads {
         // What the call leaves.
         ensures kept { F.held files.new ≡ F.held files.old }
         ensures never_falls { F.faults files.old ≤ F.faults files.new }
+        ensures calm { UnlessFault result (F.faults files.new ≡ F.faults files.old) }
     {
         if self.place == MOST_FILES {
             return Err(LoadStop::Over(self.place));

@@ -36,7 +36,7 @@ prefix-stop old new first second prefix =
 
 -- nothing was put
 pub puts-nothing : (taken : Option (List ℕ)) (faults : ℕ) → Puts (Ok tt) taken taken faults faults []
-puts-nothing taken faults = record { ok = known-nothing taken; prefix = tt; failed = tt; never_falls = omega arith }
+puts-nothing taken faults = record { ok = known-nothing taken; prefix = tt; calm = refl; failed = tt; never_falls = omega arith }
 
 -- a count that rose from a greater one rose
 pub rose-from : (first old new : ℕ) → first ≤ old → Rose old new → Rose first new
@@ -49,12 +49,14 @@ pub puts-then : {result : Result (Unit {0}) Failed} {done : Unit {0}} {old betwe
 puts-then {result = Ok other} {old = old} {between = between} {new = new} {first = first} {second = second} one two = record {
   ok = known-then old between new first second one.ok two.ok;
   prefix = tt;
+  calm = two.calm ∙ one.calm;
   failed = tt;
   never_falls = omega (arith, one.never_falls, two.never_falls);
 }
 puts-then {result = Err fault} {old = old} {between = between} {new = new} {before = before} {amid = amid} {after = after} {first = first} {second = second} one two = record {
   ok = tt;
   prefix = prefix-then old between new first second one.ok two.prefix;
+  calm = tt;
   failed = rose-from before amid after one.never_falls two.failed;
   never_falls = omega (arith, one.never_falls, two.never_falls);
 }
@@ -63,7 +65,7 @@ puts-then {result = Err fault} {old = old} {between = between} {new = new} {befo
 pub puts-stop : {result : Result (Unit {0}) Failed} {fault other : Failed} {old new : Option (List ℕ)} {before after : ℕ} {first : List ℕ} → result ≡ Err other → (second : List ℕ)
     → Puts (Err fault) old new before after first → Puts result old new before after (first ++ second)
 puts-stop {other = other} {old = old} {new = new} {before = before} {after = after} {first = first} is second one =
-    let stopped : Puts (Err other) old new before after (first ++ second) = record { ok = tt; prefix = prefix-stop old new first second one.prefix; failed = one.failed; never_falls = one.never_falls } in
+    let stopped : Puts (Err other) old new before after (first ++ second) = record { ok = tt; prefix = prefix-stop old new first second one.prefix; calm = tt; failed = one.failed; never_falls = one.never_falls } in
     subst (λ result. Puts result old new before after (first ++ second)) (sym is) stopped
 
 -- and for what was to follow that

@@ -30,6 +30,10 @@ OnFailed result P = MatchLoad result (λ _. ⊤) ⊤ P ⊤
 abbrev pub OnMemory : Result Loaded LoadFault → Type 0 → Type 0
 OnMemory result P = MatchLoad result (λ _. ⊤) ⊤ ⊤ P
 
+-- P, whatever the answer is but Failed
+abbrev pub UnlessFailed : Result Loaded LoadFault → Type 0 → Type 0
+UnlessFailed result P = MatchLoad result (λ _. P) P ⊤ P
+
 -- P, whatever the answer is but want of memory
 abbrev pub UnlessMemory : Result Loaded LoadFault → Type 0 → Type 0
 UnlessMemory result P = MatchLoad result (λ _. P) P P ⊤

@@ -12,9 +12,10 @@ TakesPrefix old new piece = (count : ℕ) × (new ≡ append_known old (take cou
 abbrev pub AppendsFront : Option (List ℕ) → Option (List ℕ) → List ℕ → Type 0
 AppendsFront old new piece = (count : ℕ) × Appends old new (take count piece)
 
--- a piece was put, by one put or several: it is taken whole, or a prefix of it and a fault is counted
+-- a piece was put, by one put or several: it is taken whole and no fault is counted, or a prefix of it and one is
 pub record Puts (result : Result (Unit {0}) Failed) (taken_old taken_new : Option (List ℕ)) (faults_old faults_new : ℕ) (piece : List ℕ) : Type 0 where
   pub ok : OnOk result (taken_new ≡ append_known taken_old piece)
   pub prefix : OnErr result (TakesPrefix taken_old taken_new piece)
+  pub calm : OnOk result (faults_new ≡ faults_old)
   pub failed : OnErr result (Rose faults_old faults_new)
   pub never_falls : faults_old ≤ faults_new

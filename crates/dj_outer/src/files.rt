@@ -51,7 +51,7 @@ impl<T: Drop> From<AllocFailed<T>> for LoadFault {
 /// names that were asked for, oldest first, each where it is told; `faults` counts what went wrong.
 pub trait Files {
     ghost use Rattle.dj_outer.specs.Count.{Rose};
-    ghost use Rattle.dj_outer.specs.Files.{IfWhole, OnOver, OnFailed, OnMemory, UnlessMemory, HasFile, with_asked};
+    ghost use Rattle.dj_outer.specs.Files.{IfWhole, OnOver, OnFailed, OnMemory, UnlessFailed, UnlessMemory, HasFile, with_asked};
 
     ghost held: { Self → Option (List (List ℕ × List ℕ)) };
 
@@ -66,6 +66,7 @@ pub trait Files {
         ensures within { IfWhole result (λ bytes. length bytes ≤ limit) }
         ensures over { OnOver result
             (HasFile (held self.old) name.now (λ file. limit < length file)) }
+        ensures calm { UnlessFailed result (faults self.new ≡ faults self.old) }
         ensures failed { OnFailed result (Rose (faults self.old) (faults self.new)) }
 
         // What the call leaves.

@@ -17,6 +17,7 @@ pub trait Sink {
     fn put(&mut self, piece: &[u8]) -> Result<(), Failed>
         ensures ok { OnOk result (taken self.new ≡ append_known (taken self.old) piece.now) }
         ensures prefix { OnErr result (TakesPrefix (taken self.old) (taken self.new) piece.now) }
+        ensures calm { OnOk result (faults self.new ≡ faults self.old) }
         ensures failed { OnErr result (Rose (faults self.old) (faults self.new)) }
         ensures never_falls { faults self.old ≤ faults self.new };
 }

@@ -42,6 +42,7 @@ impl<W: Write> Sink for StreamSink<W> {
             (Appends (W.contents (writer_of self.old)) (W.contents (writer_of self.new)) piece.now) }
         ensures prefix { OnErr result (AppendsFront (W.contents (writer_of self.old))
             (W.contents (writer_of self.new)) piece.now) }
+        ensures calm { OnOk result (stream_faults self.new ≡ stream_faults self.old) }
         ensures failed { OnErr result (Rose (stream_faults self.old) (stream_faults self.new)) }
         ensures never_falls { stream_faults self.old ≤ stream_faults self.new }
     {

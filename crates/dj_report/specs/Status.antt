@@ -1,5 +1,5 @@
 -- How a run of the program ends.
-use Rattle.std.specs.Prelude.{ℕ, Result, Ok, Err, ⊤}
+use Rattle.std.specs.Prelude.{ℕ, Result, Ok, Err, OnErr, ⊤}
 use Rattle.std.specs.declared.alloc.AllocError.{AllocError}
 use Rattle.dj_words.specs.declared.order.UsageKind.{UsageKind}
 use Rattle.dj_report.specs.declared.status.Status.{Status}
@@ -57,3 +57,15 @@ IfTooMuch result P = MatchEnd result ⊤ ⊤ (λ _. ⊤) (λ _. ⊤) ⊤ ⊤ P
 -- a fact of a run that got to the texts: it wrote all of its output, or stopped in a text
 abbrev pub OnLoaded : Result Status AllocError → Type 0 → Type 0
 OnLoaded result P = MatchEnd result P P (λ _. ⊤) (λ _. ⊤) P ⊤ (λ _. ⊤)
+
+-- a fact of a run that read each file it came to, and whose report could be written
+abbrev pub UnlessReadFault : Result Status AllocError → Type 0 → Type 0
+UnlessReadFault result P = MatchEnd result P P (λ _. P) (λ _. ⊤) P ⊤ (λ _. P)
+
+-- a fact of each run, where memory is wanting too, but one whose text could not be written
+abbrev pub UnlessTextFault : Result Status AllocError → Type 0 → Type 0
+UnlessTextFault result P = MatchEnd result P P (λ _. P) (λ _. P) ⊤ P (λ _. P) × OnErr result P
+
+-- a fact of each run, where memory is wanting too, but one whose report could not be written
+abbrev pub UnlessReportFault : Result Status AllocError → Type 0 → Type 0
+UnlessReportFault result P = MatchEnd result P P (λ _. P) (λ _. P) P ⊤ (λ _. P) × OnErr result P

@@ -1,4 +1,4 @@
-use Rattle.std.proofs.Common.{true, false, arith, refl, ◌∙◌, inl, inr}
+use Rattle.std.proofs.Common.{true, false, arith, refl, ◌∙◌, inl, inr, Ok}
 use Rattle.std.specs.Prelude.{⊤}
 use Rattle.std.proofs.lemmas.List.Elements.{All-from_recursion}
 use Rattle.dj_report.specs.declared.status.Status.TheVariants.{ReadFault, TooMuch}
@@ -9,7 +9,7 @@ use Rattle.dj_cli.specs.Output.{InLines, InText, ToldAll, ToldFront, ToldSome}
 use Rattle.dj_cli.specs.Pieces.{IsOfFile}
 use Rattle.dj_cli.specs.Program.{read, much}
 use Rattle.dj_cli.proofs.FilesLemmas.{classes_of_files}
-use Rattle.dj_cli.proofs.RunLemmas.{as_many_paths, clean-then, ends-report, err-then, no-other, of_files, refused-then, report-then, text-then}
+use Rattle.dj_cli.proofs.RunLemmas.{as_many_paths, clean-then, ends-calm, ends-read, ends-report, err-then, no-other, of_files, read-calm, refused-then, report-then, text-calm, text-then}
 use Rattle.dj_cli.proofs.program.print_files.Goals as goal
 
 pub tell-told-requires : goal.tell-told-requires
@@ -80,3 +80,34 @@ returns-in_ok-line-in-Err-Over-clause-report_fault g c = λ raw.
     ends-report c.last_line-in-Err-Over.result (TooMuch c.in-Err-Over.place) _ _ _ tt
     (λ cut. inr (record { line = Much c.in-Err-Over.place; cause = much over; text_kept = refl; report_taken = cut.1 }))
     ends
+
+pub returns-in_ok-found-in-Ok-clause-read_calm : goal.returns-in_ok-found-in-Ok-clause-read_calm
+returns-in_ok-found-in-Ok-clause-read_calm g c = read-calm c.tell-told.result c.in-Ok.ensures.calm
+
+pub returns-in_ok-line-in-Err-Fault-clause-read_calm :
+    goal.returns-in_ok-line-in-Err-Fault-clause-read_calm
+returns-in_ok-line-in-Err-Fault-clause-read_calm g c =
+    ends-read c.last_line.result (ReadFault c.in-Err-Fault.place) _ _ _ tt c.last_line.ensures.calm
+
+pub returns-in_ok-line-in-Err-Fault-clause-text_calm :
+    goal.returns-in_ok-line-in-Err-Fault-clause-text_calm
+returns-in_ok-line-in-Err-Fault-clause-text_calm g c = text-calm (Ok c.last_line.result) refl
+
+pub returns-in_ok-line-in-Err-Fault-clause-report_calm :
+    goal.returns-in_ok-line-in-Err-Fault-clause-report_calm
+returns-in_ok-line-in-Err-Fault-clause-report_calm g c =
+    ends-calm c.last_line.result (ReadFault c.in-Err-Fault.place) _ (λ calm. (calm, tt)) c.last_line.ensures.calm
+
+pub returns-in_ok-line-in-Err-Over-clause-read_calm :
+    goal.returns-in_ok-line-in-Err-Over-clause-read_calm
+returns-in_ok-line-in-Err-Over-clause-read_calm g c =
+    read-calm (Ok c.last_line-in-Err-Over.result) (rw c.in-Err-Over.field-0-is at c.in-Err-Over.ensures.calm)
+
+pub returns-in_ok-line-in-Err-Over-clause-text_calm :
+    goal.returns-in_ok-line-in-Err-Over-clause-text_calm
+returns-in_ok-line-in-Err-Over-clause-text_calm g c = text-calm (Ok c.last_line-in-Err-Over.result) refl
+
+pub returns-in_ok-line-in-Err-Over-clause-report_calm :
+    goal.returns-in_ok-line-in-Err-Over-clause-report_calm
+returns-in_ok-line-in-Err-Over-clause-report_calm g c =
+    ends-calm c.last_line-in-Err-Over.result (TooMuch c.in-Err-Over.place) _ (λ calm. (calm, tt)) c.last_line-in-Err-Over.ensures.calm

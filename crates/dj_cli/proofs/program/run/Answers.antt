@@ -5,7 +5,7 @@ use Rattle.dj_report.specs.Report as lines
 use Rattle.dj_cli.specs.Program.{usage}
 use Rattle.dj_words.specs.Orders.{view_order}
 use Rattle.dj_cli.proofs.OrderLemmas.{few_made}
-use Rattle.dj_cli.proofs.RunLemmas.{asks_none, ends-report}
+use Rattle.dj_cli.proofs.RunLemmas.{asks_none, ends-calm, ends-report, read-calm, text-calm}
 use Rattle.dj_cli.proofs.program.run.Goals as goal
 
 pub returns-in_ok-line-in-Err-Usage-clause-report_fault :
@@ -44,3 +44,16 @@ returns-in_ok-line-in-Err-Usage-clause-asked g c = asks_none (g.F.Files.held c.a
 
 pub returns-in-Err-Memory-clause-asked : goal.returns-in-Err-Memory-clause-asked
 returns-in-Err-Memory-clause-asked g c = asks_none (g.F.Files.held c.args.files.now) _ _ (g.F.Files.asked c.args.files.now)
+
+pub returns-in-Ok-Make-clause-read_calm : goal.returns-in-Ok-Make-clause-read_calm
+returns-in-Ok-Make-clause-read_calm g c = read-calm c.print_made.result refl
+
+pub returns-in_ok-line-in-Err-Usage-clause-read_calm : goal.returns-in_ok-line-in-Err-Usage-clause-read_calm
+returns-in_ok-line-in-Err-Usage-clause-read_calm g c = read-calm (Ok c.last_line.result) refl
+
+pub returns-in_ok-line-in-Err-Usage-clause-text_calm : goal.returns-in_ok-line-in-Err-Usage-clause-text_calm
+returns-in_ok-line-in-Err-Usage-clause-text_calm g c = text-calm (Ok c.last_line.result) refl
+
+pub returns-in_ok-line-in-Err-Usage-clause-report_calm : goal.returns-in_ok-line-in-Err-Usage-clause-report_calm
+returns-in_ok-line-in-Err-Usage-clause-report_calm g c =
+    ends-calm c.last_line.result (Usage c.in-Err-Usage.kind) _ (λ calm. (calm, tt)) c.last_line.ensures.calm

@@ -42,3 +42,9 @@ returns-in-Refused-clause-stopped g c =
     let methods = c.len-methods.result in
     let number : methods ≡ length class.methods = c.len-methods.ensures ∙ sym (length-map c.args.class.now.methods view_method) in
     IfErr-weaker c.tell_refused.result _ _ (stops-as (λ told. told ≡ refused_piece class.this_class cause methods) (IsClassPiece world class) (is_refused world class cause methods first number) _ _ _ _) (c.tell_refused.ensures.stopped (g.T.Sink.taken c.args.text.now))
+
+pub returns-in-Printed-clause-calm : goal.returns-in-Printed-clause-calm
+returns-in-Printed-clause-calm g c = c.tell_printed.ensures.calm
+
+pub returns-in-Refused-clause-calm : goal.returns-in-Refused-clause-calm
+returns-in-Refused-clause-calm g c = c.tell_refused.ensures.calm (g.T.Sink.faults c.args.text.now)

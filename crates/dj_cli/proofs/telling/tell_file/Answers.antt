@@ -23,3 +23,12 @@ returns-in-Broken-clause-told g c = rw c.in-Broken.is (c.tell_broken.ensures.tol
 
 pub returns-in-Broken-clause-stopped : goal.returns-in-Broken-clause-stopped
 returns-in-Broken-clause-stopped g c = rw c.in-Broken.is (c.tell_broken.ensures.stopped c.args.world.now (g.T.Sink.taken c.args.text.now))
+
+pub returns-in-Class-clause-calm : goal.returns-in-Class-clause-calm
+returns-in-Class-clause-calm g c = c.tell_class.ensures.calm
+
+pub returns-in-Clash-clause-calm : goal.returns-in-Clash-clause-calm
+returns-in-Clash-clause-calm g c = c.tell_clash.ensures.calm (g.T.Sink.faults c.args.text.now)
+
+pub returns-in-Broken-clause-calm : goal.returns-in-Broken-clause-calm
+returns-in-Broken-clause-calm g c = c.tell_broken.ensures.calm (g.T.Sink.faults c.args.text.now)

@@ -1,18 +1,21 @@
-use Rattle.std.proofs.Common.{false, refl, ◌≡◌, ◌<◌, [], ap, if◌then◌else◌, length, sym, ◌∙◌, subst, arith}
+use Rattle.std.proofs.Common.{Bool, false, refl, ◌≡◌, ◌<◌, [], ap, if◌then◌else◌, length, sym, ◌∙◌, subst, arith}
 use Rattle.std.specs.String.{string_bytes}
 use Rattle.std.proofs.lemmas.List.{length-map}
 use Rattle.std.proofs.lemmas.Result.{err_from_is_err_and}
 use Rattle.dj_load.specs.Loading.{finds_of, found_of}
 use Rattle.dj_making.specs.MadeFiles.{summary_text}
 use Rattle.dj_cli.specs.Pieces.{IsOfFile}
+use Rattle.dj_cli.specs.declared.tally.Tally.{Tally}
 use Rattle.dj_cli.specs.Telling.{Tallies, source_of}
-use Rattle.dj_cli.proofs.TellingLemmas.{failed-from, few_told, name_at, stops_at_end, stops_telling, told_all, told_more, told_none}
+use Rattle.dj_cli.proofs.TellingLemmas.{calm-stops, failed-from, few_told, name_at, stops_at_end, stops_telling, told_all, told_more, told_none}
 use Rattle.dj_cli.proofs.telling.tell_files.Goals as goal
 
 pub loop-place-init : goal.loop-place-init
 loop-place-init g c = record {
   text_falls = omega arith;
   report_falls = omega arith;
+  text_calm = refl;
+  report_calm = refl;
   few_printed = omega (arith, ap (λ tally. tally.printed) c.no_tally-tally.ensures.tally);
   few_refused = omega (arith, ap (λ tally. tally.refused) c.no_tally-tally.ensures.tally);
   told = told_none (source_of c.args.named.now c.args.made) (finds_of c.args.files.now) c.args.files.now.world (g.T.Sink.taken c.args.text.now) (g.P.Sink.taken c.args.report.now) c.no_tally-tally.result c.no_tally-tally.ensures.tally;
@@ -50,6 +53,11 @@ returns-in_err-one-clause-failed g c =
     let p = err_from_is_err_and c.from_residual-in_err-one.result c.from_residual-in_err-one.ensures.1 in
     rw (p.1, p.2) (failed-from c.in_err-one.field-0.0 (g.T.Sink.faults c.args.text.now) (g.T.Sink.faults c.loop-place.text) (g.T.Sink.faults c.tell_file.new.text) (g.P.Sink.faults c.args.report.now) (g.P.Sink.faults c.loop-place.report) (g.P.Sink.faults c.tell_file.new.report) c.loop-place.invariant.text_falls c.loop-place.invariant.report_falls c.in_err-one.ensures.failed)
 
+pub returns-in_err-one-clause-calm : goal.returns-in_err-one-clause-calm
+returns-in_err-one-clause-calm g c =
+    let p = err_from_is_err_and c.from_residual-in_err-one.result c.from_residual-in_err-one.ensures.1 in
+    rw (p.1, p.2) (calm-stops Tally Bool (g.T.Sink.faults c.tell_file.new.text) (g.P.Sink.faults c.tell_file.new.report) c.in_err-one.field-0.0 c.loop-place.invariant.text_calm c.loop-place.invariant.report_calm c.in_err-one.ensures.calm)
+
 pub both-tally-requires-clause-printed : goal.both-tally-requires-clause-printed
 both-tally-requires-clause-printed g c =
     let found = c.args.files.now.found.items in
@@ -85,6 +93,8 @@ loop-place-preserved g c =
     record {
       text_falls = omega arith;
       report_falls = omega arith;
+      text_calm = c.in_ok-one.ensures.calm.0 ∙ c.loop-place.invariant.text_calm;
+      report_calm = c.in_ok-one.ensures.calm.1 ∙ c.loop-place.invariant.report_calm;
       few_printed = omega (arith, c.both-tally.ensures.printed, one.printed_is, few.0, c.loop-place.invariant.few_printed);
       few_refused = omega (arith, c.both-tally.ensures.refused, one.refused_is, few.1, c.loop-place.invariant.few_refused);
       told = told_more (source_of named c.args.made) (finds_of c.args.files.now) c.args.files.now.world i c.loop-place.tally (g.T.Sink.taken c.args.text.now) (g.T.Sink.taken c.loop-place.text) (g.T.Sink.taken c.tell_file.new.text) (g.P.Sink.taken c.args.report.now) (g.P.Sink.taken c.loop-place.report) (g.P.Sink.taken c.tell_file.new.report) c.loop-place.invariant.told (string_bytes c.index-named-place.result) (found_of c.index-found-place.result) at_name at_file c.in_ok-one.one c.both-tally.result c.both-tally.ensures.has_line c.both-tally.ensures.printed c.both-tally.ensures.refused one;
@@ -108,6 +118,14 @@ pub returns-in_err-end-clause-failed : goal.returns-in_err-end-clause-failed
 returns-in_err-end-clause-failed g c =
     let p = err_from_is_err_and c.from_residual-in_err-end.result c.from_residual-in_err-end.ensures.1 in
     rw (p.1, p.2) (failed-from c.in_err-end.field-0.0 (g.T.Sink.faults c.args.text.now) (g.T.Sink.faults c.loop-place.text) (g.T.Sink.faults c.tell_last.new.text) (g.P.Sink.faults c.args.report.now) (g.P.Sink.faults c.loop-place.report) (g.P.Sink.faults c.tell_last.new.report) c.loop-place.invariant.text_falls c.loop-place.invariant.report_falls c.in_err-end.ensures.failed)
+
+pub returns-in_err-end-clause-calm : goal.returns-in_err-end-clause-calm
+returns-in_err-end-clause-calm g c =
+    let p = err_from_is_err_and c.from_residual-in_err-end.result c.from_residual-in_err-end.ensures.1 in
+    rw (p.1, p.2) (calm-stops Tally Bool (g.T.Sink.faults c.tell_last.new.text) (g.P.Sink.faults c.tell_last.new.report) c.in_err-end.field-0.0 c.loop-place.invariant.text_calm c.loop-place.invariant.report_calm c.in_err-end.ensures.calm)
+
+pub returns-clause-calm : goal.returns-clause-calm
+returns-clause-calm g c = (c.in_ok-end.ensures.calm.0 ∙ c.loop-place.invariant.text_calm, c.in_ok-end.ensures.calm.1 ∙ c.loop-place.invariant.report_calm)
 
 pub returns-clause-told : goal.returns-clause-told
 returns-clause-told g c =

@@ -45,5 +45,6 @@ loop-name-preserved g c =
       within = c.in_ok-bytes.ensures.within;
       kept = c.in_ok-bytes.ensures.kept ∙ before.kept;
       falls = omega arith;
+      calm = c.in_ok-bytes.ensures.calm ∙ before.calm;
       loaded = rw (pushed, more) loaded;
     }

@@ -10,5 +10,6 @@ invariant-loop-name g l = record {
   within : IsWithin l.loads;
   kept : g.F.Files.held l.files ≡ g.F.Files.held l.initial.files;
   falls : g.F.Files.faults l.initial.files ≤ g.F.Files.faults l.files;
+  calm : g.F.Files.faults l.files ≡ g.F.Files.faults l.initial.files;
   loaded : LoadsMore (g.F.Files.held l.initial.files) l.initial.loads l.loads (g.F.Files.asked l.initial.files) (g.F.Files.asked l.files) (g.F.Files.faults l.initial.files) (g.F.Files.faults l.files) (take l.name-index (map string_bytes l.named)) (contents_of l.contents.items);
 }

@@ -1,4 +1,4 @@
-use Rattle.std.proofs.Common.{rules, ◌++◌, take, length, arith, length-append, length-take, List, ℕ, ◌≤◌, ◌+◌}
+use Rattle.std.proofs.Common.{rules, ◌++◌, take, length, arith, length-append, length-take, ◌≤◌, ◌+◌}
 use Rattle.std.proofs.KnownBytes.{Consumes-trans}
 use Rattle.dj_outer.proofs.disk_files.read_within.Goals as goal
 
