@@ -8,15 +8,15 @@ def given(words, count):
     return words[0], most, random.Random(int(words[2]) if len(words) > 2 else 1)
 
 
-def ask(command, lines):
-    """The lines that a program answers to these lines."""
-    question = "".join(line + "\n" for line in lines).encode()
+def ask(command, lines, word=""):
+    """The lines that a program answers to these lines, each behind the word that says what it is on, where there is one."""
+    question = "".join(f"{word} {line}\n" if word else f"{line}\n" for line in lines).encode()
     return subprocess.run(command, input=question, stdout=subprocess.PIPE, check=True).stdout.decode().split("\n")[:-1]
 
 
-def ask_each(command, lines):
+def ask_each(command, lines, word=""):
     """The answers of a program that answers each line by one."""
-    answers = ask(command, lines)
+    answers = ask(command, lines, word)
     assert len(answers) == len(lines), (command, len(answers), len(lines))
     return answers
 

@@ -1,6 +1,6 @@
-"""Compares class_check with the JVM's own parser and with a second reading, on damaged copies of class files.
+"""Compares files_check with the JVM's own parser and with a second reading, on damaged copies of class files.
 
-usage: python3 checks/class_files.py PROGRAM [COUNT [SEED]], with the built class_check as PROGRAM, or - for the second reading alone.
+usage: python3 checks/class_files.py PROGRAM [COUNT [SEED]], with the built files_check as PROGRAM, or - for the second reading alone.
 A few hundred class files are made by javac, with every kind of entry, member and attribute that it writes. Of COUNT
 damaged copies (200,000), kind and offset must be those of `class_file_format.py`. Whether a copy is whole is compared
 with what `defineClass` of the JVM says; where they differ, a rule named here must explain it. A difference without
@@ -154,7 +154,7 @@ def main():
             done += min(BATCH, count - done)
             lines = [data.hex() for data in copies]
             java = ask_each(["java", "-Xshare:auto", "-cp", folder, "ClassFiles"], lines)
-            ours = ask_each([program], lines) if program != "-" else [None] * len(lines)
+            ours = ask_each([program], lines, "class") if program != "-" else [None] * len(lines)
             for data, mine, theirs in zip(copies, ours, java):
                 found = fault(data)
                 second = "whole" if found is None else f"{found[0]} {found[1]}"

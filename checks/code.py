@@ -1,12 +1,12 @@
-"""Compares code_check with javap's reader and ASM on whole class files, and with a second reading on damaged Codes.
+"""Compares files_check with javap's reader and ASM on whole class files, and with a second reading on damaged Codes.
 
-usage: python3 checks/code.py PROGRAM [COUNT [SEED]], with the built code_check as PROGRAM, or - for the second reading alone.
+usage: python3 checks/code.py PROGRAM [COUNT [SEED]], with the built files_check as PROGRAM, or - for the second reading alone.
 Whole class files are those of the PACKAGES, which apt-get downloads, and some hundreds that javac makes: every line has
 to be that of `CodeListing.java`, which asks javap's reader and ASM. Of COUNT damaged Codes (100,000), each in a class
 file with this one method, every line has to be that of `code_format.py`; and where that tells a Code bad, the JVM has
 to refuse it, or a rule named here must explain it. A difference is printed, and the exit status is 1.
 
-PROGRAM reads lines, each a class file in hexadecimal, and tells lines of each, the last of which is `end`:
+PROGRAM reads lines, each `code` and a class file in hexadecimal, and tells lines of each, the last of which is `end`:
 
     broken KIND OFFSET                      the bytes are no class file, and nothing else is told
     method NAME DESCRIPTOR                  each method with code, in file order; then either
@@ -49,10 +49,10 @@ SOURCES = 160
 BATCH = 4_000
 
 
-def told(command, files):
+def told(command, files, word=""):
     """The lines that a program tells of each class file."""
     parts = [[]]
-    for line in ask(command, [data.hex() for data in files]):
+    for line in ask(command, [data.hex() for data in files], word):
         parts[-1].append(line)
         if line == "end":
             parts.append([])
@@ -94,7 +94,7 @@ def compare_whole(program, folder, name, files, wrong):
     """Each line of whole class files, by the program, by the second reading and by the JDK."""
     theirs = told(["java", *JDK, "-Xss64m", "-cp", folder, "CodeListing"], files)
     mine = [answer(data) for data in files]
-    ours = told([program], files) if program != "-" else mine
+    ours = told([program], files, "code") if program != "-" else mine
     tally = collections.Counter("instruction" if line[0].isdigit() else line.split()[0] for lines in mine for line in lines)
     print(f"{name}: {len(files)} class files,", ", ".join(f"{tally[word]} {word}s" for word in ("method", "instruction", "handler", "frame")))
     for data, *answers in zip(files, ours, mine, theirs):
@@ -133,7 +133,7 @@ def compare_damaged(program, folder, files, count, rng, wrong):
         chosen = [(lone, damage(rng, lone)) for lone in rng.choices(lones, k=min(BATCH, count - done))]
         copies = [lone.file(content) for lone, content in chosen]
         mine = [[*lines_of(lone.pool, *lone.method, content), "end"] for lone, content in chosen]
-        ours = told([program], copies) if program != "-" else mine
+        ours = told([program], copies, "code") if program != "-" else mine
         java = ask_each(["java", "-Xshare:auto", "-cp", folder, "ClassFiles", "link"], [data.hex() for data in copies])
         for data, lines, second, theirs in zip(copies, ours, mine, java):
             found = second[1] if second[1].startswith("bad") else "whole"

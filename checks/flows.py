@@ -1,6 +1,6 @@
 """Compares which rules of flow bodies break with what javac finds in them, on random bodies.
 
-usage: python3 checks/flows.py PROGRAM [BODIES [SEED]], with the built typing_check as PROGRAM.
+usage: python3 checks/flows.py PROGRAM [BODIES [SEED]], with the built runs_check as PROGRAM.
 Units of random methods, half of which are changed (`flow_bodies.py`), BODIES in all (100,000), are spelled as the printer spells
 them (`unit_texts.py`) and given to javac, whose errors are told apart by their lines. The program has the classes with other
 bodies, which javac compiles, and the units. A body is accepted by both or by neither; where it is refused, the first statement

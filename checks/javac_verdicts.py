@@ -1,6 +1,6 @@
 """What javac finds in the bodies of units and what a program finds in them, side by side, and where the places of a body stand in its text.
 
-The program is a built typing_check. It has the classes with bodies that break no rule, which javac compiles, and the texts of the
+The program is a built runs_check. It has the classes with bodies that break no rule, which javac compiles, and the texts of the
 units, which are given to javac too, whose errors are told apart by their lines.
 """
 import collections, pathlib, re, subprocess, tempfile
@@ -155,7 +155,7 @@ def verdicts(path, files, units):
     """What the program says of each method of each unit, where the classes are around that stand around the unit."""
     for unit in units:
         around = [name for name in ["L", *FILES, *unit.get("around", []), unit["name"]] if name in files]
-        answers = iter(ask([path], [*(f"class {files[name].hex()}" for name in around), f"unit {text(unit).encode().hex()}"]))
+        answers = iter(ask([path], [*(f"class {files[name].hex()}" for name in around), f"unit {text(unit).encode().hex()}"], "typing"))
         assert [next(answers) for _ in around] == ["end"] * len(around), unit["name"]
         for method in unit["methods"]:
             name, _, *verdict = next(answers).split()

@@ -1,6 +1,6 @@
 """Compares what the machine shows of code with what the JVM does, on methods that have every kind of instruction it runs.
 
-usage: python3 checks/machine.py PROGRAM [CALLS [SEED]], with the built machine_check as PROGRAM.
+usage: python3 checks/machine.py PROGRAM [CALLS [SEED]], with the built runs_check as PROGRAM.
 Static methods of a class that javac makes (`machine_sources.py`) and of one made here (`machine_codes.py`) are called, CALLS
 times in all (100,000), with numbers mostly around the limits of their types. What the machine asks is answered from a heap
 (`runs.py`); calls within the class are runs of their own. Results with the elements of arrays, and exceptions, have to be
@@ -28,7 +28,7 @@ def main(words):
     with tempfile.TemporaryDirectory() as room:
         folder = pathlib.Path(room)
         compile_in(folder)
-        machine = Program(path, STEPS)
+        machine = Program(path, "machine", STEPS)
         for name in "MH":
             machine.add("class", (folder / f"{name}.class").read_bytes(), f"L{name};")
         methods = [(owner[1:-1], name, letters(descriptor)[0], place) for (owner, name, descriptor), place in machine.places.items() if name.startswith("t_")]

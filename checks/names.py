@@ -1,6 +1,6 @@
-"""Compares names_check with Java's own classes on 100,000 random and mutated inputs.
+"""Compares files_check with Java's own classes on 100,000 random and mutated inputs.
 
-usage: python3 checks/names.py PROGRAM [COUNT [SEED]], with the built names_check as PROGRAM.
+usage: python3 checks/names.py PROGRAM [COUNT [SEED]], with the built files_check as PROGRAM.
 Where the two differ, the stricter rule of ours that the input breaks must be one of those named
 here; a difference without one is printed, and the exit status is 1.
 """
@@ -120,7 +120,7 @@ def main():
         else:
             questions.append((kind, (some_descriptor if kind == "d" else some_identifier)(rng)))
     lines = [f"{kind} {(item if kind == 'u' else item.encode('utf-16-be')).hex()}" for kind, item in questions]
-    ours = ask_each([program], lines)
+    ours = ask_each([program], lines, "name")
     with tempfile.TemporaryDirectory() as folder:
         source = pathlib.Path(__file__).with_name("Names.java")
         subprocess.run(["javac", "-d", folder, str(source)], check=True)

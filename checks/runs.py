@@ -1,6 +1,6 @@
 """Runs of code or of bodies by a program of ours, on a heap that answers what they ask, and calls in the JVM likewise (`Runs.java`).
 
-The program reads lines: `class` or `unit` and bytes in hexadecimal, answered by a line `NAME DESCRIPTOR` for each method and
+The program reads lines, each behind the word that says what is run: `class` or `unit` and bytes in hexadecimal, answered by a line `NAME DESCRIPTOR` for each method and
 `end`; `run PLACE BOUND ARGUMENT.. | ANSWER..`, the methods being counted from 0, and `more ANSWER..` for the same run with
 further answers, each answered by how many actions it shows, and `return`, `return VALUE`, `throw REFERENCE`, or `more` and
 its last action. A VALUE is i5, l5, n for null, sWORD for a string constant, or rREFERENCE, and a REFERENCE is
@@ -40,13 +40,13 @@ def type_of(value):
 class Program:
     """The program, its methods by their class, name and descriptor, and the heap that its questions are answered from."""
 
-    def __init__(self, path, bound):
+    def __init__(self, path, word, bound):
         self.process = subprocess.Popen([path], stdin=subprocess.PIPE, stdout=subprocess.PIPE, text=True)
-        self.bound, self.places, self.asked = bound, {}, 0
+        self.word, self.bound, self.places, self.asked = word, bound, {}, 0
         self.clear()
 
     def say(self, line):
-        self.process.stdin.write(line + "\n")
+        self.process.stdin.write(f"{self.word} {line}\n")
         self.process.stdin.flush()
 
     def told(self):

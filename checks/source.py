@@ -1,11 +1,11 @@
 """Compares what bodies show with what the JVM does, on random well typed bodies.
 
-usage: python3 checks/source.py PROGRAM [RUNS [SEED [TYPING]]], with the built source_check as PROGRAM.
+usage: python3 checks/source.py PROGRAM [RUNS [SEED [typing]]], with the built runs_check as PROGRAM.
 Units of random methods (`random_bodies.py`) are spelled as the printer spells them (`unit_texts.py`), compiled by javac, and
 read back by the program, which takes no other spelling; its methods are called, RUNS times in all (100,000), with numbers
 mostly around the limits of their types. What a body asks is answered from a heap (`runs.py`); calls within the unit are runs
 of their own. Results with the elements of arrays, exceptions, and what was logged on the way have to be those of the JVM. The
-exit status is 1 where one isn't. With the built typing_check as TYPING the verdict on each random method is asked, too, and the
+exit status is 1 where one isn't. With the word `typing` the verdict on each random method is asked, too, and the
 last line tells how many it accepts: their runs, like all, have to end as in the JVM, and so none of them is stuck.
 """
 import pathlib, subprocess, sys, tempfile
@@ -33,7 +33,7 @@ def compile_in(folder, units):
 
 def loaded(path, folder, units):
     """The program with the classes and the methods of these units."""
-    program = Program(path, TURNS)
+    program = Program(path, "source", TURNS)
     for name in ["L", *(unit["name"] for unit in units)]:
         program.add("class", (folder / f"{name}.class").read_bytes(), f"L{name};")
     for unit in units:
@@ -51,17 +51,17 @@ def some_calls(rng, units, places, count):
 
 
 def verdicts_in(path, folder, units):
-    """What a program of types says of each random method: nothing, or the first rule that it breaks."""
+    """What the program says of the types of each random method: nothing, or the first rule that it breaks."""
     files = {name: (folder / f"{name}.class").read_bytes() for name in ["L", *(unit["name"] for unit in units)]}
     return [verdict for _, method, verdict in verdicts(path, files, units) if method["name"][0] == "t"]
 
 
-def compare(path, rng, units, count, wrong, typing=None):
-    """Compares so many calls, and tells how often the program was asked, and the verdicts of a program of types where one is given."""
+def compare(path, rng, units, count, wrong, typing):
+    """Compares so many calls, and tells how often the program was asked, and the verdicts on types where they are wanted."""
     with tempfile.TemporaryDirectory() as room:
         folder = pathlib.Path(room)
         compile_in(folder, units)
-        found = verdicts_in(typing, folder, units) if typing else []
+        found = verdicts_in(path, folder, units) if typing else []
         program = loaded(path, folder, units)
         calls = list(some_calls(rng, units, program.places, count))
         lines = [" ".join([f"{owner[1:-1]}.{name}", *map(str, values)]) for owner, name, *_, values in calls]
@@ -76,16 +76,16 @@ def compare(path, rng, units, count, wrong, typing=None):
 
 def main(words):
     path, count, rng = given(words, 100_000)
-    asked, done, wrong, batch, told = 0, 0, [], BATCH * METHODS * CALLS, []
+    asked, done, wrong, batch, told, typing = 0, 0, [], BATCH * METHODS * CALLS, [], words[3:4] == ["typing"]
     while done < count:
         units = [random_unit(rng, f"C{number}", METHODS) for number in range(BATCH)]
-        more, found = compare(path, rng, units, min(batch, count - done), wrong, *words[3:4])
+        more, found = compare(path, rng, units, min(batch, count - done), wrong, typing)
         asked, told = asked + more, told + found
         done += min(batch, count - done)
     print(f"{done} runs of {-(-done // batch) * BATCH * METHODS} bodies, asked {asked} times")
     status = end("runs that end otherwise than in the JVM", wrong)
-    if words[3:4]:
-        print(f"bodies that the program of types accepts: {told.count(None)} of {len(told)}")
+    if typing:
+        print(f"bodies whose types the program accepts: {told.count(None)} of {len(told)}")
     return status
 
 

@@ -1,16 +1,16 @@
 """The texts of units with each kind of expression, statement, modifier, field and member, and their shapes, written by hand.
 
-usage: python3 checks/text_table.py          writes the stored run of text_check, the files stdin and stdout of its crate
+usage: python3 checks/text_table.py          writes the stored run of texts_check, the files stdin and stdout of its crate
        python3 checks/text_table.py --javac  compares the shapes with javac's parser, and the texts with what the rules give
 
-A shape is of the form of `texts.py`. Each text is laid out as a unit's one text has to be, so text_check has to read it.
+A shape is of the form of `texts.py`. Each text is laid out as a unit's one text has to be, so texts_check has to read it.
 """
 import pathlib, subprocess, sys, tempfile, textwrap
 from unit_texts import text as text_of
 from unit_trees import tree
 
 FOLDER = pathlib.Path(__file__).resolve().parent
-CRATE = FOLDER.parent / "crates/text_check"
+CRATE = FOLDER.parent / "crates/texts_check"
 
 EXPRESSIONS = [
     ("0", "(int 0)"),
@@ -250,7 +250,9 @@ def compare():
 def write():
     rows = [(f"read {text.encode().hex()}", f"unit {shape}") for text, shape in units()]
     rows += [(f"read {text.encode().hex()}", "misread") for text in NO_TEXTS]
-    rows += [("make x", "unknown"), ("write 1", "unknown"), ("print x", "unknown"), ("hold 3", "0")]
+    rows += [("make x", "unknown"), ("write 1", "unknown"), ("print x", "no text"), ("read", "unknown")]
+    rows += [("file C.java", "read"), ("file NoLastLineEnd.java", "misread"), ("file NoLine.java", "misread"), ("file NoFile.java", "no text")]
+    rows += [("print C.java", str(len((CRATE / "data/C.java").read_text().split("\n", 1)[1]))), ("print NoLine.java", "misread")]
     for name, lines in zip(("stdin", "stdout"), zip(*rows)):
         (CRATE / name).write_text("".join(line + "\n" for line in lines))
     return 0

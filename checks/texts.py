@@ -1,17 +1,16 @@
-"""Compares text_check with javac's parser: the trees that it makes of the texts of units.
+"""Compares texts_check with javac's parser: the trees that it makes of the texts of units.
 
-usage: python3 checks/texts.py PROGRAM [COUNT [SEED]], with the built text_check as PROGRAM, or - for javac and the rules of the text alone.
-COUNT units (20,000) are made by PROGRAM, and as many here by `random_units.py`, whose texts and shapes `unit_texts.py`
-and `unit_shapes.py` write from the rules alone. javac has to take each text and to make a tree of the shape that is told; PROGRAM has to read
-each, as a unit of that shape; and its text of a unit has to be that which the rules give the unit of the shape that it tells (`unit_trees.py`). The same of texts of which one token is deleted or doubled: where PROGRAM reads one, javac
-takes it, with the same shape. A difference that no rule named here explains is printed, and the exit status is 1.
+usage: python3 checks/texts.py PROGRAM [COUNT [SEED]], with the built texts_check as PROGRAM, or - for javac and the rules of the text alone.
+COUNT units (20,000) are made by `random_units.py`, every kind of expression, statement and member nested; their texts and shapes
+`unit_texts.py` and `unit_shapes.py` write from the rules alone. javac has to take each text and to make a tree of that shape; PROGRAM
+has to read each, to print what it read as the same text, and to tell that shape. The same of texts of which one token is deleted or
+doubled: where PROGRAM reads one, javac takes it, with the same shape, and the rules give the unit of that shape (`unit_trees.py`) this
+very text. A difference that no rule named here explains is printed, and the exit status is 1.
 
 PROGRAM reads lines and answers each by one:
 
-    make SEED       a random well formed unit, every kind of expression, statement and member nested: `TEXT SHAPE`
-    read TEXT       what the text is: `unit SHAPE`, `misread` where it is no unit's, or `deep` where it nests too deep to be read
-    print COUNT     of a random unit with so many methods the bytes of its text
-    hold COUNT      of the same unit 0, without printing it
+    read TEXT       what the text is: `unit SHAPE`, `misread` where it is no unit's, `deep` where it nests too deep to be read, or
+                    `otherwise` where what is read is printed as another text
 
 A TEXT is the bytes of a text in hexadecimal. A SHAPE is the tree that javac's parser makes of the text, as one of
 
@@ -97,16 +96,10 @@ class Referee:
         if self.program:
             for written, wanted, given in zip(texts, shapes, ask_each([self.program], ["read " + each.encode().hex() for each in texts])):
                 if given != "unit " + wanted:
-                    self.differ(who + ", text_check", written, "unit " + wanted, given)
-
-    def spelled(self, texts, shapes):
-        """Texts that the program told with these shapes."""
-        for given, wanted in zip(texts, [text(tree(each)) for each in shapes]):
-            if given != wanted:
-                self.differ("made by the program, text", given, wanted, given)
+                    self.differ(who + ", texts_check", written, "unit " + wanted, given)
 
     def changed(self, rng, texts):
-        """Texts of units with a change: what the program reads, javac takes."""
+        """Texts of units with a change: what the program reads, javac takes, and is the text that the rules give it."""
         texts = [damaged(rng, each) for each in texts]
         theirs = ask_each(self.java, [each.encode().hex() for each in texts])
         ours = ask_each([self.program], ["read " + each.encode().hex() for each in texts]) if self.program else ["misread"] * len(texts)
@@ -114,16 +107,13 @@ class Referee:
             self.tally["changed, " + ("refused" if given.startswith("refused") else "taken") + " by javac, " + mine.split()[0]] += 1
             if mine != "misread" and mine != "unit " + given:
                 self.differ("changed", written, mine, "unit " + given if not given.startswith("refused") else given)
+            elif mine != "misread" and text(tree(given)) != written:
+                self.differ("changed, text", written, text(tree(given)), written)
 
-    def batch(self, rng, first, count):
+    def batch(self, rng, count):
         units = [Maker(rng).unit() for _ in range(count)]
         texts, shapes = [text(unit) for unit in units], [shape(unit) for unit in units]
-        self.whole("made here", texts, shapes)
-        if self.program:
-            made = [line.split(" ", 1) for line in ask_each([self.program], [f"make {first + number}" for number in range(count)])]
-            texts += [bytes.fromhex(each).decode() for each, _ in made]
-            self.spelled(texts[count:], [each for _, each in made])
-            self.whole("made by the program", texts[count:], [each for _, each in made])
+        self.whole("whole", texts, shapes)
         self.changed(rng, texts)
 
 
@@ -134,7 +124,7 @@ def main(words):
         subprocess.run(["javac", "-d", folder, str(FOLDER / "Texts.java")], check=True)
         referee = Referee(None if words[0] == "-" else words[0], folder)
         for done in range(0, count, BATCH):
-            referee.batch(rng, seed * count + done, min(BATCH, count - done))
+            referee.batch(rng, min(BATCH, count - done))
     for what, number in sorted(referee.tally.items()):
         print(number, what)
     for who, wanted, given, written in referee.wrong[:5]:

@@ -1,6 +1,6 @@
 """Compares which rules of types bodies break with what javac finds in them, on random bodies.
 
-usage: python3 checks/typed.py PROGRAM [BODIES [SEED]], with the built typing_check as PROGRAM.
+usage: python3 checks/typed.py PROGRAM [BODIES [SEED]], with the built runs_check as PROGRAM.
 Units of random methods and constructors, each unit in a small random world of classes (`typed_worlds.py`), BODIES in all (100,000),
 are spelled as the printer spells them and given to javac; every second body is changed so that it may break a rule of types
 (`typed_changes.py`). javac is told to look at the flow of classes whose types are wrong, too, so that its errors of both are there.

@@ -1,6 +1,6 @@
-"""Compares verify_check with the JVM's verifier: on whole packages, on damaged methods, and on random ones.
+"""Compares files_check with the JVM's verifier: on whole packages, on damaged methods, and on random ones.
 
-usage: python3 checks/verify.py PROGRAM [COUNT [SEED [cases]]], with the built verify_check as PROGRAM; `cases` leaves out
+usage: python3 checks/verify.py PROGRAM [COUNT [SEED [cases]]], with the built files_check as PROGRAM; `cases` leaves out
 the whole packages, so that a long run can be taken in parts, by seeds.
 Each method of the packages of `code.py` and of classes that javac makes has to be verified, in the world of its package
 with the core classes alone, and with the headers of the JDK's classes too. COUNT methods (50,000), half of them of
@@ -11,7 +11,7 @@ both are asked again, until they agree. Each such name has a method made by hand
 (`verify_differences.py`). Where both refuse, the places that they tell have to be the same, or differ as
 `compares_place` says. What has no name is printed, and the exit status is 1.
 
-PROGRAM reads lines: a class file in hexadecimal is added to its world, `fill` adds the core classes that are missing, and
+PROGRAM reads lines: `world` and a class file in hexadecimal, which is added to its world, or `fill`, which adds the core classes that are missing, and
 each is answered by a line; `verify` and a class file is answered by a line for each method with code, and `end`:
 
     broken KIND OFFSET                          the bytes are no class file
@@ -97,7 +97,7 @@ class World:
         """The lines that the program tells of each class file, in a world with classes of these names besides."""
         world = [*self.heads.values(), *self.files.values()] if with_heads else list(self.files.values())
         world += [plain_file(name) for name in sorted(more)]
-        lines = ask([program], [data.hex() for data in world] + ["fill"] + [f"verify {data.hex()}" for data in files])
+        lines = ask([program], [f"world {data.hex()}" for data in world] + ["world fill"] + [f"verify {data.hex()}" for data in files])
         assert lines[:len(world)] == ["added"] * len(world), collections.Counter(lines[:len(world)])
         parts = [[]]
         for line in lines[len(world) + 1:]:

@@ -1,4 +1,4 @@
-"""A method for each thing in which the JVM's verifier and verify_check differ, made by hand, with the name that it has to get."""
+"""A method for each thing in which the JVM's verifier and files_check differ, made by hand, with the name that it has to get."""
 import struct
 import verify_rules as rules
 from random_methods import Pool

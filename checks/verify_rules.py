@@ -1,4 +1,4 @@
-"""Why the JVM's verifier and verify_check differ on a method, and the method with just that set right.
+"""Why the JVM's verifier and files_check differ on a method, and the method with just that set right.
 
 A rule has a name, tells whether it is what stands at the place of the difference, and makes of the class file one or
 several in which nothing but that is changed, so that both can be asked again: what else differs can't hide behind it.

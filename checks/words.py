@@ -1,6 +1,6 @@
-"""Compares words_check with a second reading of command lines on 200,000 random lists of words, most of them near the grammar.
+"""Compares files_check with a second reading of command lines on 200,000 random lists of words, most of them near the grammar.
 
-usage: python3 checks/words.py PROGRAM [COUNT [SEED]], with the built words_check as PROGRAM.
+usage: python3 checks/words.py PROGRAM [COUNT [SEED]], with the built files_check as PROGRAM.
 The second reading is written from what clap documents of its builder. Each list that differs has a line, and then the
 exit status is 1.
 """
@@ -54,7 +54,7 @@ def take(words):
 
 
 def reading(words):
-    """What the words ask for, as words_check tells it."""
+    """What the words ask for, as files_check tells it."""
     try:
         classes, once = take(words[1:])
     except Refused:
@@ -105,7 +105,7 @@ def any_words(rng):
 def main(words):
     program, count, rng = given(words, 200_000)
     lists = [["decompile"] + (near_the_grammar if rng.random() < 0.8 else any_words)(rng) for _ in range(count)]
-    answers = ask_each([program], ["\t".join(it) for it in lists])
+    answers = ask_each([program], ["\t".join(it) for it in lists], "words")
     wanted = [reading(it) for it in lists]
     kinds = collections.Counter(" ".join(it.split(" <")[0].split()[:2]) if it.startswith("usage") else it.split()[0] for it in wanted)
     print(", ".join(f"{kind} {number}" for kind, number in sorted(kinds.items())))

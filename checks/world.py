@@ -1,6 +1,6 @@
-"""Compares world_check with the JVM and javac on random families of classes.
+"""Compares files_check with the JVM and javac on random families of classes.
 
-usage: python3 checks/world.py PROGRAM [COUNT [SEED]], with the built world_check as PROGRAM.
+usage: python3 checks/world.py PROGRAM [COUNT [SEED]], with the built files_check as PROGRAM.
 Of each of COUNT families (2,000) of up to 12 classes and interfaces, with three callers, `Worlds.java` tells to which
 method or field the JVM resolves a name and a descriptor, which types the JVM lets go where, and which method javac
 chooses for a call. Where an answer differs, a rule named here must explain it; a difference without one is printed, and
@@ -16,7 +16,7 @@ BATCH = 100
 
 
 def questions(family):
-    """What is asked of a family, in the words of world_check and in those of Worlds.java, and the call where it is one."""
+    """What is asked of a family, in the words of files_check and in those of Worlds.java, and the call where it is one."""
     rng, asked = family.rng, []
     methods = [(method.name, method.descriptor) for one in family.classes for method in one.methods] + [method[1:] for method in METHODS_OF_OBJECT]
     fields = [(field.name, field.descriptor) for one in family.classes for field in one.fields]
@@ -46,7 +46,7 @@ def write_files(family, folder):
 
 def told(program, family, asked):
     files = [one.file().hex() for one in family.classes + family.callers]
-    answers = ask_each([program], [*files, "fill", *(line for line, _, _ in asked)])
+    answers = ask_each([program], [*files, "fill", *(line for line, _, _ in asked)], "world")
     assert answers[:len(files)] == ["added"] * len(files), answers[:len(files)]
     return answers[len(files) + 1:]
 

@@ -25,17 +25,16 @@ impl Asked {
         }
     }
 
-    /// The run that these words ask for: the method's place, a bound, arguments, a bar and answers.
-    pub fn read(alloc: Global, line: &str) -> Result<Asked> {
+    /// Becomes the run that these words ask for: the method's place, a bound, arguments, a bar and answers.
+    pub fn read(&mut self, alloc: Global, line: &str) -> Result<()> {
         let (before, answers) = line.split_once('|').unwrap_or((line, ""));
         let (place, rest) = before.split_once(' ').unwrap_or((before, ""));
         let (bound, arguments) = rest.split_once(' ').unwrap_or((rest, ""));
-        let mut asked = Asked::new(alloc);
-        asked.place = place.parse::<usize>().unwrap_or(0);
-        asked.bound = bound.parse::<u64>().unwrap_or(0);
-        asked.arguments = values_of(alloc, arguments)?;
-        put_answers(alloc, &mut asked.answers, answers)?;
-        Ok(asked)
+        self.place = place.parse::<usize>().unwrap_or(0);
+        self.bound = bound.parse::<u64>().unwrap_or(0);
+        self.arguments = values_of(alloc, arguments)?;
+        self.answers = Vec::new(alloc);
+        put_answers(alloc, &mut self.answers, answers)
     }
 
     /// The same run with these answers more.

@@ -42,26 +42,15 @@ impl fmt::Display for DescriptorText<'_> {
         match self.0 {
             Descriptor::Field(kind) => put_type(kind, f),
             Descriptor::Method { parameters, result } => {
-                put_parameters(parameters.as_slice(), f)?;
-                put_returned(result, f)
+                f.write_str("(")?;
+                for kind in parameters.as_slice() {
+                    put_type(kind, f)?;
+                }
+                match result {
+                    Some(kind) => write!(f, "){}", TypeText(kind)),
+                    None => f.write_str(")V"),
+                }
             }
         }
-    }
-}
-
-/// The types of parameters, in brackets.
-fn put_parameters<W: Write>(parameters: &[JType], f: &mut fmt::Formatter<W>) -> fmt::Result {
-    f.write_str("(")?;
-    for kind in parameters {
-        put_type(kind, f)?;
-    }
-    f.write_str(")")
-}
-
-/// The type that is returned, or V.
-fn put_returned<W: Write>(returned: &Option<JType>, f: &mut fmt::Formatter<W>) -> fmt::Result {
-    match returned {
-        Some(kind) => put_type(kind, f),
-        None => f.write_str("V"),
     }
 }

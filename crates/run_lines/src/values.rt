@@ -1,18 +1,9 @@
 //! Values and answers from texts: `i5`, `l5`, `n`, `r3:[I:2` for a reference with its type and length, `sab` for a string constant; `d` for done, and `t3:Ljava/lang/Error;:0` for what is thrown.
 
+use crate::names::{type_of, units_of};
 use anyhow::Result;
-use dj_names::{Descriptor, JType, read_descriptor, read_units};
 use dj_values::{Answer, RefId, RefValue, Value};
 use std::alloc::Global;
-
-/// The type that a field's descriptor spells; int, where it is a method's.
-fn kind(alloc: Global, text: &str) -> Result<JType> {
-    let units = read_units(alloc, text.as_bytes())?;
-    match read_descriptor(alloc, &units)? {
-        Descriptor::Field(kind) => Ok(kind),
-        Descriptor::Method { .. } => Ok(JType::Int),
-    }
-}
 
 /// A reference: its number, its type and its length.
 fn reference(alloc: Global, text: &str) -> Result<RefValue> {
@@ -20,7 +11,7 @@ fn reference(alloc: Global, text: &str) -> Result<RefValue> {
     let (class, length) = rest.split_once(':').unwrap_or((rest, ""));
     Ok(RefValue {
         id: RefId::Number(number.parse::<u64>().unwrap_or(0)),
-        class: kind(alloc, class)?,
+        class: type_of(alloc, class)?,
         length: length.parse::<u32>().unwrap_or(0),
     })
 }
@@ -28,8 +19,8 @@ fn reference(alloc: Global, text: &str) -> Result<RefValue> {
 /// The reference of a string constant.
 fn string(alloc: Global, characters: &str) -> Result<RefValue> {
     Ok(RefValue {
-        id: RefId::Text(read_units(alloc, characters.as_bytes())?),
-        class: kind(alloc, "Ljava/lang/String;")?,
+        id: RefId::Text(units_of(alloc, characters)?),
+        class: type_of(alloc, "Ljava/lang/String;")?,
         length: 0,
     })
 }

@@ -1,17 +1,13 @@
-//! Copies of descriptors, members and static types, and order among names; the stored run of `names_check` shows what is read and what is told of it.
+//! Copies of descriptors, members and static types; stored runs show what is read.
 use dj_names::{
-    ClassMembers, ClassName, Constant, Descriptor, Field, Items, JType, Members, MethodHead,
-    NameFault, StaticType, Units, read_descriptor, read_units,
+    ClassMembers, Constant, Descriptor, Field, Items, JType, Members, MethodHead, NameFault,
+    StaticType, Units, read_descriptor, read_units,
 };
 use std::alloc::{AllocError, Global};
 use std::test::Fail;
 
 fn units(alloc: Global, text: &str) -> Result<Units, NameFault> {
     read_units(alloc, text.as_bytes())
-}
-
-fn class_name(alloc: Global, text: &str) -> Result<ClassName, NameFault> {
-    Ok(ClassName::new(units(alloc, text)?))
 }
 
 fn one<T: Drop>(alloc: Global, item: T) -> Result<Items<T>, AllocError> {
@@ -55,43 +51,6 @@ fn is_read_and_copied(alloc: Global, text: &str) -> Result<bool, NameFault> {
 #[test]
 fn a_copied_descriptor_has_its_parts(rt: HostRuntime) -> Result<(), Fail> {
     assert!(rt; is_read_and_copied(rt.alloc(), "([ILA;J)V")?);
-    Ok(())
-}
-
-/// Whether the name equals its copy and comes before the other.
-fn stands_before(alloc: Global, name: &ClassName, other: &ClassName) -> Result<bool, NameFault> {
-    let copy = name.copy(alloc)?;
-    Ok(*name == copy && name < other)
-}
-
-/// Whether the first name equals its copy and comes before the second.
-fn are_in_order(alloc: Global, first: &str, second: &str) -> Result<bool, NameFault> {
-    let name = class_name(alloc, first)?;
-    let later = class_name(alloc, second)?;
-    stands_before(alloc, &name, &later)
-}
-
-#[test]
-fn names_are_compared(rt: HostRuntime) -> Result<(), Fail> {
-    assert!(rt; are_in_order(rt.alloc(), "a/B", "a/C")?);
-    Ok(())
-}
-
-/// Whether a class's name is shown as this text.
-fn is_shown_as(alloc: Global, name: &ClassName, text: &str) -> Result<bool, NameFault> {
-    let shown = format!(in alloc; "{name}")?;
-    Ok(shown.as_str() == text)
-}
-
-/// Whether the name that is spelled so is shown so.
-fn is_shown(alloc: Global, text: &str) -> Result<bool, NameFault> {
-    let name = class_name(alloc, text)?;
-    is_shown_as(alloc, &name, text)
-}
-
-#[test]
-fn names_are_shown(rt: HostRuntime) -> Result<(), Fail> {
-    assert!(rt; is_shown(rt.alloc(), "a/B")?);
     Ok(())
 }
 

@@ -1,4 +1,4 @@
-//! Tests of a method's code, and of the values that it works on, through public calls: what contracts can't say, and values from outside.
+//! Tests of a method's code through public calls: how it is read and copied, where control goes in it, its frames, and the values of its runs.
 //! It stands on the crates that it tests, so that each of them is proved once, without tests.
 //! No layer stands above it, and it has no call of its own.
 #![tactic(auto)]
@@ -6,10 +6,10 @@
 #[cfg(test)]
 mod code;
 #[cfg(test)]
-mod content;
+mod made;
 #[cfg(test)]
-mod instructions;
+mod starts;
 #[cfg(test)]
-mod slots;
+mod tables;
 #[cfg(test)]
 mod values;

@@ -1,4 +1,4 @@
-//! The program over files and sinks in memory: runs that a sink ends, and one that loads no file.
+//! The program over files and sinks in memory: runs that a sink ends.
 
 use dj_cli::{Status, run};
 use dj_outer::{MemoryFiles, MemorySink};
@@ -125,17 +125,9 @@ fn a_report_that_fails_leaves_the_text_whole(rt: HostRuntime) -> Result<(), Fail
 }
 
 #[test]
-fn made_classes_end_with_a_count_of_their_methods(rt: HostRuntime) -> Result<(), Fail> {
-    let alloc = rt.alloc();
-    let ended = run_on(alloc, &["--make", "2"], &[], &[])?;
-    let text = format!(in alloc; "{}// made 2 printed 2 refused 4\n", two_classes())?;
-    let other = difference(&ended, Status::Refused, text.as_str(), four_methods());
-    assert_eq!(rt; other, "none");
-    Ok(())
-}
-
-#[test]
-fn a_text_that_fails_at_that_count_holds_the_classes(rt: HostRuntime) -> Result<(), Fail> {
+fn a_text_that_fails_at_the_count_of_methods_holds_the_classes(
+    rt: HostRuntime,
+) -> Result<(), Fail> {
     let ended = run_on(rt.alloc(), &["--make", "2"], &[4], &[])?;
     let other = difference(&ended, Status::TextFault, two_classes(), four_methods());
     assert_eq!(rt; other, "none");

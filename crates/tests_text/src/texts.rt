@@ -5,57 +5,9 @@ use dj_read::{ReadUnitFault, read_unit};
 use std::alloc::{AllocError, Global};
 use std::test::*;
 
-const NO_MEMBER: &str = "public class C {
-}
-";
-
 pub const DIFFERENCE: &str = "public class C {
     static int f(int p0, int p1) {
         return p0 - p1;
-    }
-}
-";
-
-const TWO_METHODS: &str = "public class C {
-    static int f(int p0, int p1) {
-        return p0 - p1;
-    }
-    static int Code(int p0, int p1) {
-        return p0 - p1;
-    }
-}
-";
-
-const OVERLOADS: &str = "package a.b;
-class C {
-    public static int f() {
-        return -2147483648;
-    }
-    static int f(int p0) {
-        return (p0 * 5) + (-5);
-    }
-}
-";
-
-const ABSTRACT_CLASS: &str = "package a.b;
-public abstract class D extends a.Base implements java.lang.Runnable, a.E {
-    static final int LOWEST = -2147483648;
-    protected volatile a.b.D[] next;
-    static <T extends java.lang.Throwable> java.lang.RuntimeException rethrow$0(java.lang.Throwable t) throws T {
-        throw (T) t;
-    }
-    public abstract int[] get(byte p0, char[][] p1) throws java.io.IOException, a.Problem;
-    D(int p0) {
-        return;
-    }
-    static {
-    }
-    static final synchronized int g() {
-        {
-            return (-5) * (2 + v1);
-            {
-            }
-        }
     }
 }
 ";
@@ -199,18 +151,7 @@ public abstract class C extends a.Base implements I, a.J {
 }
 ";
 
-const TEXTS: &[&str] = &[
-    KINDS,
-    NO_MEMBER,
-    DIFFERENCE,
-    TWO_METHODS,
-    OVERLOADS,
-    ABSTRACT_CLASS,
-    FINAL_CLASS,
-    INTERFACE,
-    TYPES,
-    OPERATORS,
-];
+const TEXTS: &[&str] = &[KINDS, FINAL_CLASS, INTERFACE, TYPES, OPERATORS];
 
 /// The text of a copy of the unit that these bytes are read as, where they are read.
 pub fn printed_again(alloc: Global, bytes: &[u8]) -> Result<Option<Vec<u8>>, AllocError> {

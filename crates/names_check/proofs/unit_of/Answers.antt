@@ -1,8 +1,0 @@
-use Rattle.std.proofs.Common.{arith}
-use Rattle.names_check.proofs.unit_of.Goals as goal
-
-pub overflow_mul-result : goal.overflow_mul-result
-overflow_mul-result c = omega arith
-
-pub overflow_add-result : goal.overflow_add-result
-overflow_add-result c = omega arith
