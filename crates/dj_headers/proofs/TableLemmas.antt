@@ -5,7 +5,8 @@ use Rattle.std.proofs.lemmas.List.{map-append}
 use Rattle.dj_names.specs.declared.header.Header.{Header}
 use Rattle.dj_names.specs.Headers.{Name, Implements}
 use Rattle.dj_headers.specs.Rows.{IsSet, row_at, Opens}
-use Rattle.dj_headers.specs.Table.{Places, place_of, IsIndex, Extends, IsTable, IsParent, IsUp, AreTables, IsReady, bare}
+use Rattle.dj_headers.specs.declared.places.Places.{Places}
+use Rattle.dj_headers.specs.Table.{place_of, IsIndex, Extends, IsTable, IsParent, IsUp, AreTables, IsReady, bare}
 use Rattle.dj_headers.proofs.RowLemmas.{none_empty, none_behind}
 use Rattle.dj_headers.proofs.PathLemmas.{Implements-own, Implements-none, Implements-before, Implements-through, Implements-cases}
 

@@ -1,24 +1,43 @@
 -- A table of which class stands above which: a place for each name, and for each place a row with a bit for each place.
-use Rattle.std.specs.Prelude.{◌≡◌, ℕ, ◌<◌, ◌⊎◌, List, [], map, Option, Some, Contains, slice_get}
+use Rattle.std.specs.Prelude.{◌≡◌, ◌≢◌, ℕ, ◌+◌, ◌*◌, ◌%◌, ◌^◌, ◌<◌, ◌⊎◌, List, [], fold, map, if◌then◌else◌, nat_eq, Option, None, Some, Contains, slice_get}
 use Rattle.std.specs.Ordering.{nat_cmp}
 use Rattle.std.specs.Cmp.Lexicographic.{slice_cmp}
+use Rattle.std.specs.Str.{bytes_eq}
 use Rattle.std.specs.BTreeMap as tree
-use Rattle.std.specs.BTreeMap.{BTreeMap, btree_map_len}
+use Rattle.std.specs.BTreeMap.{btree_map_len}
+use Rattle.indexmap.specs.IndexMap.{get, index_map_len}
 use Rattle.dj_names.specs.declared.header.Header.{Header}
 use Rattle.dj_names.specs.Headers.{Name, HasDistinctNames, Implements}
+use Rattle.dj_headers.specs.declared.places.Placed.{Placed}
+use Rattle.dj_headers.specs.declared.places.Places.{Places}
 use Rattle.dj_headers.specs.declared.roots.Roots.{Roots}
 use Rattle.dj_headers.specs.Roots.{KnowsRoots}
 use Rattle.dj_headers.specs.Rows.{IsSet, row_at}
 
 -- ---- places
 
--- a place for each of some names
-abbrev pub Places : Type 0
-Places = BTreeMap Name ℕ
+-- a number below 2 ^ 16 that is mostly one name's alone
+unfoldable pub digest : Name → ℕ
+digest name = fold (λ sum unit. ((sum * 40503) % 2 ^ 16 + unit) % 2 ^ 16) 0 name
 
--- the place of a name, if it has one
-abbrev pub place_of : Places → Name → Option ℕ
-place_of places name = tree.get (slice_cmp nat_cmp) places name
+-- the place of a name where this one is the first of its digest, and what the others have is this
+abbrev pub place_by : Option Placed → Name → Option ℕ → Option ℕ
+place_by None name other = other
+place_by (Some first) name other = if bytes_eq first.name name then Some first.at else other
+
+-- the place of a name, if it has one: by the first name of its digest, or by the others
+unfoldable pub place_of : Places → Name → Option ℕ
+place_of places name = place_by (get nat_eq places.firsts (digest name)) name (tree.get (slice_cmp nat_cmp) places.others name)
+
+-- how many names have a place
+unfoldable pub count : Places → ℕ
+count places = index_map_len places.firsts + btree_map_len places.others
+
+-- another name had this digest first
+pub record IsBehind (places : Places) (at : ℕ) (name : Name) : Type 0 where
+  pub first : Placed
+  pub is : get nat_eq places.firsts at ≡ Some first
+  pub differs : first.name ≢ name
 
 -- a name has a place
 pub record HasPlace (places : Places) (name : Name) : Type 0 where
@@ -28,11 +47,26 @@ pub record HasPlace (places : Places) (name : Name) : Type 0 where
 -- a place is one name's, and below the number of names
 pub record IsIndex (places : Places) : Type 0 where
   pub one_name : (first second : Name) (at : ℕ) → place_of places first ≡ Some at → place_of places second ≡ Some at → first ≡ second
-  pub below : (name : Name) (at : ℕ) → place_of places name ≡ Some at → at < btree_map_len places
+  pub below : (name : Name) (at : ℕ) → place_of places name ≡ Some at → at < count places
 
 -- the new places are the old ones, and maybe more
 abbrev pub Extends : Places → Places → Type 0
 Extends old new = (name : Name) (at : ℕ) → place_of old name ≡ Some at → place_of new name ≡ Some at
+
+-- each name keeps its place, and none gets one
+pub record Keeps (old new : Places) : Type 0 where
+  pub places : (name : Name) → place_of new name ≡ place_of old name
+  pub count : count new ≡ count old
+
+-- one name gets a place, and each other keeps its own; there is one name more if it had none
+pub record Gains (old new : Places) (name : Name) (at : ℕ) : Type 0 where
+  pub here : place_of new name ≡ Some at
+  pub apart : (other : Name) → name ≢ other → place_of new other ≡ place_of old other
+  pub more : place_of old name ≡ None → count new ≡ count old + 1
+
+-- no name has a place
+abbrev pub HasNone : Places → Type 0
+HasNone places = (name : Name) → place_of places name ≡ None
 
 -- each header's name has the place of the header in the list
 pub record HasPlaces (headers : List Header) (places : Places) : Type 0 where

@@ -5,12 +5,11 @@ ghost use Rattle.dj_names.specs.Headers.{names, HasDistinctNames, IsInterface, I
 ghost use Rattle.dj_names.specs.Assignable.{object_name};
 ghost use Rattle.dj_headers.specs.Table.{HasPlaces};
 
-use crate::places::{Places, place};
+use crate::places::{Places, no_places, place, put};
 use crate::table::has_above;
 use crate::tables::Tables;
 use dj_names::{ClassName, Header, Items, is_word};
 use std::alloc::{AllocError, Global};
-use std::collections::BTreeMap;
 use std::marker::Model;
 
 /// Headers in order, no two of one class, with tables of what stands above what.
@@ -41,7 +40,7 @@ impl Headers {
     {
         Headers {
             headers: Items::new(alloc),
-            heads: BTreeMap::new(alloc),
+            heads: no_places(alloc),
             tables: Tables::new(alloc),
         }
     }
@@ -63,7 +62,7 @@ impl Headers {
     {
         let addition = self.tables.prepare(&header)?;
         let name = header.name.copy(self.tables.alloc)?;
-        self.heads.insert(name, self.headers.len())?;
+        put(&mut self.heads, name, self.headers.len())?;
         self.headers.push(header)?;
         self.tables.add(addition);
         Ok(())

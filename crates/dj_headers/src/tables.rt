@@ -6,12 +6,11 @@ ghost use Rattle.dj_headers.specs.Roots.{AreRoots, KnowsRoots};
 ghost use Rattle.dj_headers.specs.Rows.{Opens, IsOpened};
 ghost use Rattle.dj_headers.specs.Table.{HasPlace, IsIndex, IsTable, IsParent, IsUp, AreTables, IsReady};
 
-use crate::places::{Places, learn_header};
+use crate::places::{Places, learn_header, no_places};
 use crate::roots::{Roots, learn_roots};
 use crate::table::{above_parents, open, raise};
 use dj_names::{ClassName, Header, Items};
 use std::alloc::{AllocError, Global};
-use std::collections::BTreeMap;
 
 /// A place for each name, and by these places the rows of both tables.
 #[derive(Drop)]
@@ -38,7 +37,7 @@ impl Tables {
         ensures roots { result.roots ≡ None }
     {
         Tables {
-            places: BTreeMap::new(alloc),
+            places: no_places(alloc),
             above: Vec::new(alloc),
             lines: Vec::new(alloc),
             roots: None,

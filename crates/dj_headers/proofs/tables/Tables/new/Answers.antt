@@ -4,7 +4,7 @@ use Rattle.dj_headers.proofs.tables.Tables.new.Goals as goal
 
 pub returns-clause-empty : goal.returns-clause-empty
 returns-clause-empty c = record {
-  index = IsIndex-empty c.new.result c.new.ensures.empty;
-  above = IsTable-none c.new.result c.new-2.result.items c.new-2.ensures.items;
-  lines = IsTable-none c.new.result c.new-3.result.items c.new-3.ensures.items;
+  index = IsIndex-empty c.no_places.result c.no_places.ensures.none;
+  above = IsTable-none c.no_places.result c.new.result.items c.new.ensures.items;
+  lines = IsTable-none c.no_places.result c.new-2.result.items c.new-2.ensures.items;
 }
