@@ -13,7 +13,8 @@ use Rattle.dj_headers.proofs.HeaderLemmas.{named_at, HasDistinctNames-push}
 use Rattle.dj_headers.proofs.PathLemmas.{Any-before, Any-push_cases, join_paths, Implements-own, Implements-before, Implements-cases, HasParent-last, HasParent-cases}
 use Rattle.dj_world.specs.declared.fault.ClashKind.{ClashKind}
 use Rattle.dj_world.specs.declared.fault.ClashKind.TheVariants as clash
-use Rattle.dj_world.specs.Clashes.{HasCircle, IsFinal, IsClass, HasFinalSuper, HasWrongKind, IsLawful, Clashes, number_of, IsLeastClash, MayBeAdded}
+use Rattle.dj_world.specs.CoreKinds.{BreaksCore}
+use Rattle.dj_world.specs.Clashes.{HasCircle, IsFinal, IsClass, HasFinalSuper, HasMismatch, HasWrongKind, IsLawful, Clashes, number_of, IsLeastClash, MayBeAdded}
 use Rattle.dj_world.specs.Wanting.{IsWantedOtherwise}
 use Rattle.dj_world.specs.Worlds.{IsWorld}
 
@@ -198,7 +199,7 @@ module _ (headers : List Header) (header : Header) where
     | inr own ↦ inr (own, λ bit. is.1 (Any-push (λ (h : Header). (h.name ≡ class) × IsBitSet h.flags 9) headers header (own, bit)))
   ]
 
-  pub kind_by_super : IsSomeAnd header.superclass (IsInterface headers) → HasWrongKind (headers ++ header ∷ [])
+  pub kind_by_super : IsSomeAnd header.superclass (IsInterface headers) → HasMismatch (headers ++ header ∷ [])
   kind_by_super some =
       let found = and_some (IsInterface headers) header.superclass some in
       inl (record {
@@ -208,11 +209,11 @@ module _ (headers : List Header) (header : Header) where
         is_interface = Any-before (λ (h : Header). (h.name ≡ found.0) × IsBitSet h.flags 9) headers header found.2;
       })
 
-  pub kind_by_interface : ¬ Contains (names headers) header.name → Any (IsClass headers) header.interfaces → HasWrongKind (headers ++ header ∷ [])
+  pub kind_by_interface : ¬ Contains (names headers) header.name → Any (IsClass headers) header.interfaces → HasMismatch (headers ++ header ∷ [])
   kind_by_interface fresh (k, upper, within, is, class) =
       inr (record { lower = header.name; upper = upper; is_listed = listed_in_last upper (k, within, is); is_class = class_after fresh upper class })
 
-  pub kind_by_lower : ¬ Contains (names headers) header.name → IsWantedOtherwise headers header → HasWrongKind (headers ++ header ∷ [])
+  pub kind_by_lower : ¬ Contains (names headers) header.name → IsWantedOtherwise headers header → HasMismatch (headers ++ header ∷ [])
   kind_by_lower fresh (inl wanted) =
       let found = super_before wanted.1 in
       inl (record {
@@ -225,11 +226,11 @@ module _ (headers : List Header) (header : Header) where
       let found = listed_in_before wanted.1 in
       inr (record { lower = found.0; upper = header.name; is_listed = found.1; is_class = own_class fresh wanted.0 })
 
-  pub kind_found : IsLawful headers → ¬ HasCircle (headers ++ header ∷ []) → HasWrongKind (headers ++ header ∷ [])
+  pub kind_found : IsLawful headers → ¬ HasCircle (headers ++ header ∷ []) → HasMismatch (headers ++ header ∷ [])
       → IsSomeAnd header.superclass (IsInterface headers) ⊎ (Any (IsClass headers) header.interfaces ⊎ IsWantedOtherwise headers header)
   kind_found lawful no_circle (inl wrong) = elim (super_cases wrong.lower wrong.upper wrong.is_superclass) [
     | inl before ↦ elim (interface_cases wrong.upper wrong.is_interface) [
-      | inl interface ↦ absurd (lawful.no_wrong_kind (inl (record { lower = wrong.lower; upper = wrong.upper; is_superclass = before; is_interface = interface })))
+      | inl interface ↦ absurd (lawful.no_wrong_kind (inl (inl (record { lower = wrong.lower; upper = wrong.upper; is_superclass = before; is_interface = interface }))))
       | inr own ↦ inr (inr (inl (own.1, has_super wrong.lower wrong.upper own.0 before)))
     ]
     | inr last ↦ elim (interface_cases wrong.upper wrong.is_interface) [
@@ -239,7 +240,7 @@ module _ (headers : List Header) (header : Header) where
   ]
   kind_found lawful no_circle (inr wrong) = elim (listed_in_cases wrong.lower wrong.upper wrong.is_listed) [
     | inl before ↦ elim (class_cases wrong.upper wrong.is_class) [
-      | inl class ↦ absurd (lawful.no_wrong_kind (inr (record { lower = wrong.lower; upper = wrong.upper; is_listed = before; is_class = class })))
+      | inl class ↦ absurd (lawful.no_wrong_kind (inl (inr (record { lower = wrong.lower; upper = wrong.upper; is_listed = before; is_class = class }))))
       | inr own ↦ inr (inr (inr (own.1, has_listed wrong.lower wrong.upper own.0 before)))
     ]
     | inr last ↦ elim (class_cases wrong.upper wrong.is_class) [
@@ -247,6 +248,15 @@ module _ (headers : List Header) (header : Header) where
       | inr own ↦ absurd (no_circle (own_parent wrong.upper (inr last.1) own.0))
     ]
   ]
+
+  -- ---- core classes
+
+  pub core_broken : BreaksCore header → HasWrongKind (headers ++ header ∷ [])
+  core_broken breaks = inr (Any-push BreaksCore headers header breaks)
+
+  pub wrong_kind_cases : IsLawful headers → HasWrongKind (headers ++ header ∷ []) → HasMismatch (headers ++ header ∷ []) ⊎ BreaksCore header
+  wrong_kind_cases lawful (inl mismatch) = inl mismatch
+  wrong_kind_cases lawful (inr breaks) = elim (Any-push_cases BreaksCore headers header breaks) [ inl before ↦ absurd (lawful.no_wrong_kind (inr before)) | inr own ↦ inr own ]
 
 -- ---- the least clash
 

@@ -2,6 +2,7 @@
 use Rattle.std.specs.Prelude.{◌≡◌, ℕ, ◌≤◌, List, [], ◌∷◌, ◌++◌, Any, Contains, IsBitSet, ◌⊎◌}
 use Rattle.dj_names.specs.declared.header.Header.{Header}
 use Rattle.dj_names.specs.Headers.{Name, names, HasDistinctNames, IsInterface, HasSuperclass, HasInterface, HasParent, Implements}
+use Rattle.dj_world.specs.CoreKinds.{BreaksCore}
 use Rattle.dj_world.specs.declared.fault.ClashKind.{ClashKind}
 use Rattle.dj_world.specs.declared.fault.ClashKind.TheVariants as clash
 
@@ -42,8 +43,12 @@ pub record HasClassListed (headers : List Header) : Type 0 where
   pub is_class : IsClass headers upper
 
 -- some superclass is an interface, or some listed interface is a class
+abbrev pub HasMismatch : List Header → Type 0
+HasMismatch headers = HasInterfaceAbove headers ⊎ HasClassListed headers
+
+-- so it is, or some header says of a core class what isn't so
 abbrev pub HasWrongKind : List Header → Type 0
-HasWrongKind headers = HasInterfaceAbove headers ⊎ HasClassListed headers
+HasWrongKind headers = HasMismatch headers ⊎ Any BreaksCore headers
 
 -- headers of which none clashes with another
 pub record IsLawful (headers : List Header) : Type 0 where

@@ -1,4 +1,5 @@
 -- What the public contracts rest on, in reading order.
+pub mod CoreKinds
 pub mod Clashes
 pub mod Named
 pub mod Worlds

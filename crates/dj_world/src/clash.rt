@@ -3,17 +3,15 @@
 ghost use Rattle.std.specs.Prelude.{◌≡◌, ◌↔◌, ◌⊎◌, ◌++◌, List, [], ◌∷◌, Some, None, IsTrue, IsSomeAnd, Any, Contains, MatchOption, IsBitSet};
 ghost use Rattle.dj_names.specs.declared.header.Header.{Header};
 ghost use Rattle.dj_names.specs.Headers.{names, IsInterface, Implements};
-ghost use Rattle.dj_world.specs.Clashes.{HasCircle, HasFinalSuper, HasWrongKind, IsFinal, IsClass, IsLawful, IsLeastClash, MayBeAdded};
+ghost use Rattle.dj_world.specs.Clashes.{HasCircle, HasFinalSuper, HasMismatch, HasWrongKind, IsFinal, IsClass, IsLawful, IsLeastClash, MayBeAdded};
 ghost use Rattle.dj_world.specs.Wanting.{WantsAsSuperclass, IsWantedOtherwise, KnowsAll};
 
+use crate::core_kinds::{INTERFACE, breaks_core};
 use crate::fault::ClashKind;
 use crate::parents::{is_class, is_final, is_final_header, is_there};
 use crate::wanted::Wanted;
 use dj_headers::Headers;
 use dj_names::{ClassName, Header};
-
-/// ACC_INTERFACE.
-const INTERFACE: u16 = 0x0200;
 
 /// Whether a class is reached from a superclass, if there is one.
 fn reaches_from_superclass(
@@ -112,6 +110,17 @@ fn has_wrong_interface(headers: &Headers, wanted: &Wanted, header: &Header) -> b
 }
 
 /// Whether a superclass would be an interface, or a listed interface a class.
+fn has_mismatch(headers: &Headers, wanted: &Wanted, header: &Header) -> bool
+    requires lawful { IsLawful headers.now }
+    requires wanted { KnowsAll headers.now wanted.now }
+    requires fresh { ¬ Contains (names headers.now) header.now.name }
+    requires no_circle { ¬ HasCircle (headers.now ++ header.now ∷ []) }
+    ensures exact { IsTrue result ↔ HasMismatch (headers.now ++ header.now ∷ []) }
+{
+    is_below_interface(headers, &header.superclass) || has_wrong_interface(headers, wanted, header)
+}
+
+/// Whether a class would not be of the kind that it has to be, or name one that is not.
 fn has_wrong_kind(headers: &Headers, wanted: &Wanted, header: &Header) -> bool
     requires lawful { IsLawful headers.now }
     requires wanted { KnowsAll headers.now wanted.now }
@@ -119,7 +128,7 @@ fn has_wrong_kind(headers: &Headers, wanted: &Wanted, header: &Header) -> bool
     requires no_circle { ¬ HasCircle (headers.now ++ header.now ∷ []) }
     ensures exact { IsTrue result ↔ HasWrongKind (headers.now ++ header.now ∷ []) }
 {
-    is_below_interface(headers, &header.superclass) || has_wrong_interface(headers, wanted, header)
+    has_mismatch(headers, wanted, header) || breaks_core(header)
 }
 
 /// The clash of the least number that a class of this header would give.

@@ -4,6 +4,7 @@
 #![tactic(auto)]
 
 mod clash;
+mod core_kinds;
 mod fault;
 mod members;
 mod named;
