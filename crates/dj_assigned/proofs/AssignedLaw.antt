@@ -116,7 +116,7 @@ jumped (Construct this arguments) list set is = is
 jumped (Do body condition) list set is = is
 jumped (For condition variable next body) list set is = is
 jumped (Finally body last) list set is = is
-jumped (Labelled label statement) list set is = jumped statement list set is
+jumped (Labelled label statement) list set is = is
 jumped (Declare variable kind value) list set is = keeps_added variable is
 
 jumped_list : (inner : Stms) (list : List Var) (set : sets.Set) → Keeps list set → Keeps (list_jumped_over inner list) (list_passed_over inner set)

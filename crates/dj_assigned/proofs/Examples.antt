@@ -19,6 +19,9 @@ unassigned around list = first_broken (list_reads around everything 0 (stms_of (
 abbrev v0 : Var
 v0 = record { kind = Local; number = 0 }
 
+abbrev v1 : Var
+v1 = record { kind = Local; number = 1 }
+
 abbrev p0 : Var
 p0 = record { kind = Param; number = 0 }
 
@@ -130,6 +133,13 @@ before_the_body around = refl
 jumped_to : (around : Surroundings)
     → unassigned around (Switch (Variable p0) (AndGroup (Some (pos 1) ∷ []) (stms_of (set ∷ [])) (AndGroup (Some (pos 2) ∷ []) (stms_of (get ∷ [])) NoGroups)) ∷ []) ≡ Some 6
 jumped_to around = refl
+
+-- switch (p0) { case 1: l0: int v1; return p0; case 2: return v1; }
+-- what is declared behind a label isn't declared for another group, where it is out of scope
+jumped_label : (around : Surroundings)
+    → unassigned around (Switch (Variable p0) (AndGroup (Some (pos 1) ∷ []) (stms_of (Labelled 0 (Declare v1 types.Int None) ∷ Return (Some (Variable p0)) ∷ [])) (AndGroup (Some (pos 2) ∷ []) (stms_of (Return (Some (Variable v1)) ∷ [])) NoGroups)) ∷ [])
+    ≡ None
+jumped_label around = refl
 
 -- switch (p0) { case 1: v0 = 1; } return v0;
 no_default : (around : Surroundings) → unassigned around (Switch (Variable p0) (AndGroup (Some (pos 1) ∷ []) (stms_of (set ∷ [])) NoGroups) ∷ get ∷ []) ≡ Some 6

@@ -27,7 +27,7 @@ after_first around variable (Some value) set = with variable (after_exp around v
 -- what a switch that jumps over a statement leaves: a variable that it declares is declared, and not assigned
 abbrev pub passed_over : Stm → sets.Set → sets.Set
 passed_over (Block list) set = set
-passed_over (Labelled label statement) set = passed_over statement set
+passed_over (Labelled label statement) set = set
 passed_over (Declare variable kind value) set = without variable set
 passed_over (Set variable value) set = set
 passed_over (SetField object name value) set = set

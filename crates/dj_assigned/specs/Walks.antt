@@ -85,7 +85,7 @@ end_last completes unassigned stopped course = record {
 -- what isn't assigned where a switch jumps over a statement
 abbrev pub jumped_over : Stm → List Var → List Var
 jumped_over (Block list) unassigned = unassigned
-jumped_over (Labelled label statement) unassigned = jumped_over statement unassigned
+jumped_over (Labelled label statement) unassigned = unassigned
 jumped_over (Declare variable kind value) unassigned = union unassigned (variable ∷ [])
 jumped_over (Set variable value) unassigned = unassigned
 jumped_over (SetField object name value) unassigned = unassigned

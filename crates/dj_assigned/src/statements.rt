@@ -17,17 +17,16 @@ use std::alloc::{AllocError, Global};
 use std::mem;
 
 /// What isn't assigned where a switch jumps over a statement.
-#[cycle(jump_over)]
 fn jump_over(alloc: Global, statement: &Stm, unassigned: &mut Items<Var>) -> Result<(), AllocError>
     ensures jumped { IfOk result (λ _. unassigned.new ≡ spec.jumped_over (view_stm statement.now) unassigned.old) }
 {
     match statement {
-        Stm::Labelled(_, statement) => jump_over(alloc, statement.get(), unassigned),
         Stm::Declare(variable, _, _) => {
             *unassigned = union(alloc, unassigned.as_slice(), &[*variable])?;
             Ok(())
         }
         Stm::Block(_)
+        | Stm::Labelled(_, _)
         | Stm::Set(_, _)
         | Stm::SetField(_, _, _)
         | Stm::SetStatic(_, _, _)

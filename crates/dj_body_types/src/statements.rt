@@ -234,7 +234,32 @@ pub fn pass(
     }
 }
 
-/// Walks past the statement behind a label, which takes breaks with it.
+/// Walks past the statement behind a label, which takes breaks with it; what the variable was that it
+/// declares is kept.
+#[cycle(pass)]
+fn pass_inner(
+    alloc: Global,
+    around: &Around<'_>,
+    label: u32,
+    scope: &mut Scope,
+    targets: &mut Items<Jump>,
+    kept: &mut Items<Kept>,
+    statement: &Stm,
+    walk: &mut Walk,
+) -> Result<(), AllocError>
+    ensures walked { IfOk result (λ _. walk.new ≡ spec.pass (with_targets (Break label ∷ []) (around_of around.now targets.old)) (Behind label) (scope_of scope.old) (view_stm statement.now) walk.old) }
+    ensures targets { OnOk result (targets.new ≡ targets.old) }
+    ensures kept { OnOk result (scope_back kept.new (scope_of scope.new) ≡ scope_back kept.old (scope_of scope.old)) }
+{
+    keep_declared(alloc, scope, statement, kept)?;
+    targets.push(Jump::Break(label))?;
+    let at = Position::Behind(label);
+    pass(alloc, around, at, scope, targets, statement, walk)?;
+    targets.pop();
+    Ok(())
+}
+
+/// Walks past the statement behind a label; what it declares is its alone.
 #[cycle(pass)]
 fn pass_labelled(
     alloc: Global,
@@ -247,13 +272,13 @@ fn pass_labelled(
 ) -> Result<(), AllocError>
     ensures walked { IfOk result (λ _. walk.new ≡ spec.pass (with_targets (Break label ∷ []) (around_of around.now targets.old)) (Behind label) (scope_of scope.old) (view_stm statement.now) walk.old) }
     ensures targets { OnOk result (targets.new ≡ targets.old) }
-    ensures scope { OnOk result (scope_of scope.new ≡ within (declared (view_stm statement.now)) (scope_of scope.old)) }
+    ensures scope { OnOk result (scope_of scope.new ≡ scope_of scope.old) }
 {
-    targets.push(Jump::Break(label))?;
-    let at = Position::Behind(label);
-    pass(alloc, around, at, scope, targets, statement, walk)?;
-    targets.pop();
-    Ok(())
+    let mut kept = Items::new(alloc);
+    pass_inner(
+        alloc, around, label, scope, targets, &mut kept, statement, walk,
+    )?;
+    put_back(scope, kept)
 }
 
 /// Walks past the statements of a loop that stands here, which takes continues with the label right

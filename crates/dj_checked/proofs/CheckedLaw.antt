@@ -122,7 +122,7 @@ mutual
   exp_passes site scope (Variable variable) walk place is =
       two_alone walk place is kinds.Name kinds.Name (is_some (scope variable)) (if_typed (type_of (context_of site) scope (Variable variable)) (is_whole_static site.headers))
   exp_passes site scope (ClassOf kind) walk place is =
-      two_alone walk place is kinds.Name kinds.Name (may_name_type site kind) (if_typed (type_of (context_of site) scope (ClassOf kind)) (is_whole_static site.headers))
+      two_alone walk place is kinds.Name kinds.Name (is_reference kind && may_name_type site kind) (if_typed (type_of (context_of site) scope (ClassOf kind)) (is_whole_static site.headers))
   exp_passes site scope (Field object name) walk place is =
       let begins = stepped walk place is in
       let one = exp_passes site scope object (step walk) (place + 1) begins.place in

@@ -1,7 +1,7 @@
 mod OrderLemmas
 mod CastingLemmas
 mod FlagLemmas
-mod WholeLemmas
+pub mod WholeLemmas
 mod ListLemmas
 mod PartLemmas
 pub mod PassLemmas

@@ -22,7 +22,7 @@ has_header_is : (headers : List Header) (name : Name) → has_header headers nam
 has_header_is [] name = refl
 has_header_is (header ∷ headers) name = ap (λ b. is_name header.name name || b) (has_header_is headers name)
 
-Decides-has : (headers : List Header) (name : Name) → Decides (has_header headers name) (Contains (names headers) name)
+pub Decides-has : (headers : List Header) (name : Name) → Decides (has_header headers name) (Contains (names headers) name)
 Decides-has headers name = Decides-at _ _ (has_header_is headers name) (Decides-among (names headers) name)
 
 pub has_none : (headers : List Header) (name : Name) → ¬ Contains (names headers) name → false ≡ has_header headers name

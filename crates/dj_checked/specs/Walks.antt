@@ -85,9 +85,9 @@ note_this site place walk = note_whole site place (Some (Of (Class site.class)))
 abbrev pub note_variable : Site → ℕ → Option JType → Walk → Walk
 note_variable site place declared walk = note_whole site place (typed declared) (note place kinds.Name (is_some declared) walk)
 
--- on a class literal: its class can be named
+-- on a class literal: of a class or an array that can be named
 abbrev pub note_class : Site → ℕ → JType → Walk → Walk
-note_class site place kind walk = note_whole site place class_type (note place kinds.Name (may_name_type site kind) walk)
+note_class site place kind walk = note_whole site place class_type (note place kinds.Name (is_reference kind && may_name_type site kind) walk)
 
 -- on a field of an object: the name can be written, and selects something
 abbrev pub note_field : Site → ℕ → Name → Option StaticType → Walk → Walk

@@ -1,13 +1,16 @@
 //! Expressions without parts.
 
-ghost use Rattle.std.specs.Prelude.{◌≡◌, IfOk, Some, is_some};
+ghost use Rattle.std.specs.Prelude.{◌≡◌, ◌&&◌, IfOk, Some, is_some};
 ghost use Rattle.std.specs.Option.{option_map, option_copied};
 ghost use Rattle.dj_names.specs.Types.{Of, Class, view_type, view_static};
+ghost use Rattle.dj_values.specs.Deciding as tests;
 ghost use Rattle.dj_static.specs.Scopes.{scope_of};
 ghost use Rattle.dj_meaning.specs.StaticTypes.{typed};
+ghost use Rattle.dj_typing.specs.Sites as sites;
 ghost use Rattle.dj_checked.specs.Sites.{site_of};
 ghost use Rattle.dj_checked.specs.Walks as spec;
 
+use crate::casting::is_reference;
 use crate::given::{copied, is_typed, library_type, object_type, static_type};
 use crate::site::{Site, may_name_member, may_name_type};
 use crate::walk::Walk;
@@ -77,6 +80,14 @@ pub fn variable(
     Ok(found)
 }
 
+/// Whether a class literal names this type: one of a class or an array, which can be named.
+fn is_literal(alloc: Global, site: &Site<'_>, kind: &JType) -> Result<bool, AllocError>
+    ensures literal { IfOk result (λ may. may ≡ (tests.is_reference (view_type kind.now) && sites.may_name_type (site_of site.now) (view_type kind.now))) }
+{
+    let named = may_name_type(alloc, site, kind)?;
+    Ok(is_reference(kind) && named)
+}
+
 /// A class literal.
 pub fn class_literal(
     alloc: Global,
@@ -87,7 +98,7 @@ pub fn class_literal(
     ensures walked { IfOk result (λ _. walk.new ≡ spec.note_class (site_of site.now) walk.old.place (view_type kind.now) (spec.step walk.old)) }
     ensures typed { IfOk result (λ found. option_map view_static found ≡ spec.class_type) }
 {
-    let named = may_name_type(alloc, site, kind)?;
+    let named = is_literal(alloc, site, kind)?;
     let found = library_type(alloc, "java/lang/Class")?;
     let place = walk.step();
     walk.note(place, TypeKind::Name, named);

@@ -61,13 +61,16 @@ fn lists(names: &[ClassName], class: &ClassName) -> bool
     false
 }
 
-/// Whether `super` may stand so: in no interface alone, behind the name of an interface where the class lists it.
+/// Whether `super` may stand so: in no interface alone, behind the name of an interface where the class lists it
+/// and its text can say the name.
 pub fn has_super(site: &Site<'_>, above: &Option<ClassName>) -> bool
     ensures has { result ≡ spec.has_super (site_of site.now) above.now }
 {
     match above {
         None => !has_flag(site.classes.headers, site.classes.from, 0x0200),
-        Some(interface) => lists(own_interfaces(&site.classes), interface),
+        Some(interface) => {
+            lists(own_interfaces(&site.classes), interface) && site.said.contains(interface)
+        }
     }
 }
 

@@ -14,3 +14,4 @@ pub mod Calling
 pub mod Choosing
 pub mod Expressions
 pub mod Effects
+pub mod AssignedSets

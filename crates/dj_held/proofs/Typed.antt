@@ -1,6 +1,7 @@
 -- An expression that keeps the rules has a type, of classes that the world has whole, and has it where other classes run too.
 use Rattle.std.proofs.Common.{◌≡◌, ℕ, zero, suc, ◌+◌, ◌≤◌, Bool, true, not, ◌&&◌, is_some, length, List, [], ◌∷◌, codes, Option, Some, None, option_map, option_and_then, refl, ap, subst, ◌∙◌, le_of_eq}
 use Rattle.std.proofs.lemmas.Bool.{false≢true, and_parts}
+use Rattle.std.specs.List.{list_any}
 use Rattle.std.proofs.lemmas.List.Folds.{Any-from_list_any}
 use Rattle.dj_names.specs.declared.header.Header.{Header}
 use Rattle.dj_names.specs.Headers.{Name}
@@ -29,7 +30,7 @@ use Rattle.dj_widened.proofs.Orders.{interface_step}
 use Rattle.dj_widened.proofs.Members.{selected_same, named_field_same}
 use Rattle.dj_widened.proofs.Targets.{object_kept, class_kept, super_kept, new_kept, construct_kept}
 use Rattle.dj_held.specs.Running.{Running, context, IsInOrder}
-use Rattle.dj_held.proofs.Results.{IsPlain, operator_gives, minus_gives}
+use Rattle.dj_held.proofs.Results.{operator_gives, minus_gives}
 
 -- ---- what is found in the world and where other classes run
 
@@ -182,7 +183,7 @@ module _ (body : Running) (order : IsInOrder body) where
       listed : (named : Option Name) → has_super body.site named ≡ true → (interface : Name) → named ≡ Some interface → IsWhole world interface
       listed None has interface is = absurd cc
       listed (Some other) has interface is =
-          let there = some_in (λ one. is_name one other ≡ true) (interfaces_of world body.site.class) (Any-from_list_any (λ one. is_name one other) (interfaces_of world body.site.class) has) in
+          let there = some_in (λ one. is_name one other ≡ true) (interfaces_of world body.site.class) (Any-from_list_any (λ one. is_name one other) (interfaces_of world body.site.class) (and_parts (list_any (λ one. is_name one other) (interfaces_of world body.site.class)) (body.site.can_say other) has).0) in
           let same : there.0 ≡ interface = (Decides-name there.0 other).0 there.2 ∙ (let e : other ≡ interface = cc in e) in
           subst (IsWhole world) same (whole_above from (above_parent (interface_step world body.site.class there.0 (from body.site.class (above_itself world body.site.class)) there.1)))
 

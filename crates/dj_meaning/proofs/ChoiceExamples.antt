@@ -5,9 +5,10 @@ use Rattle.dj_names.specs.declared.header.Header.{Header}
 use Rattle.dj_names.specs.Headers.{Name}
 use Rattle.dj_names.specs.Types as types
 use Rattle.dj_names.specs.Types.{JType, Class, Array, StaticType, Of}
-use Rattle.dj_meaning.specs.Members.{Members}
+use Rattle.dj_meaning.specs.Members.{Method, Members}
 use Rattle.dj_meaning.specs.Fields.{KnownField, field_of}
 use Rattle.dj_meaning.specs.Calls.{MethodIn, chosen}
+use Rattle.dj_meaning.specs.Targets.{Target, of_new}
 use Rattle.dj_meaning.proofs.ExampleWorld.{object_class, header, field, method, none}
 
 -- `class q.B extends q.A implements I, J`, `class t.C extends q.B`, each interface with a field `x`
@@ -110,3 +111,25 @@ no_clone = refl
 
 an_array_clone : option_map (λ (one : MethodIn). one.owner) (chosen headers members (record { from = codes "t/C"; class = object_class; through = Some (Array types.Int); name = codes "clone"; arguments = [] })) ≡ Some object_class
 an_array_clone = refl
+
+-- ---- constructors
+
+-- the result of the constructor that `new q.A()` means, where `q.A` has these methods
+abbrev constructed : List Method → Option (Option JType)
+constructed methods =
+    option_map (λ (one : Target). types.result_of one.descriptor)
+    (of_new headers (record { fields = []; methods = methods } ∷ none ∷ none ∷ none ∷ none ∷ none ∷ []) (codes "q/A") (codes "q/A") [])
+
+-- a constructor, and a method of its name that has a result
+abbrev a_constructor : Method
+a_constructor = method 0x0001 (codes "<init>") [] None
+
+abbrev with_a_result : Method
+with_a_result = method 0x0001 (codes "<init>") [] (Some types.Int)
+
+-- what has a result is no constructor, and doesn't stand in the way of one
+no_constructor : constructed (with_a_result ∷ []) ≡ None
+no_constructor = refl
+
+the_constructor : constructed (with_a_result ∷ a_constructor ∷ []) ≡ Some None
+the_constructor = refl

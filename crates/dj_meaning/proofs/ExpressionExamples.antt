@@ -90,6 +90,13 @@ a_quotient_by_zero = refl
 a_float_operand : gives types.Int (Cast types.Int (Binary op.Add (int 1) (Field This (codes "f")))) [] ≡ goes_on []
 a_float_operand = refl
 
+-- a distance below all longs counts by its remainder, as any other: at -2^64 - 1 that is 31
+a_shift : gives types.Int (Binary op.Shl (int 1) (trees.Long (negsuc 18446744073709551616))) [] ≡ returns [] (Int (negsuc 2147483647))
+a_shift = refl
+
+a_shift_of_a_long : gives types.Long (Binary op.Shl (trees.Long (pos 1)) (Negative (int 63))) [] ≡ returns [] (Long (pos 2))
+a_shift_of_a_long = refl
+
 negative : gives types.Int (Negative (int 3)) [] ≡ returns [] (Int (negsuc 2))
 negative = refl
 

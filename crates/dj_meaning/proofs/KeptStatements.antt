@@ -29,7 +29,7 @@ HasDeclared Has (Some one) = Has one.0
 
 declared-has : (Has : Var → Type 0) (stm : Stm) → EachInStm Has stm → HasDeclared Has (declared stm)
 declared-has Has (Block list) n = tt
-declared-has Has (Labelled label statement) n = declared-has Has statement n
+declared-has Has (Labelled label statement) n = tt
 declared-has Has (Declare variable kind initial) n = n.0
 declared-has Has (Set variable new) n = tt
 declared-has Has (SetField object name new) n = tt

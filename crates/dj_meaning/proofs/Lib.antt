@@ -18,3 +18,4 @@ pub mod StatementExamples
 pub mod ChoiceExamples
 pub mod WaysExamples
 pub mod Preserved
+pub mod PreservingExamples

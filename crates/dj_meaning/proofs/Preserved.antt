@@ -1,14 +1,14 @@
 -- Each statement preserves itself, and rewrites one after another preserve.
-use Rattle.std.proofs.Common.{refl, sym, ◌∙◌, subst}
-use Rattle.dj_syntax.specs.Trees.{Stm}
+use Rattle.std.proofs.Common.{◌≡◌, refl, sym, ap, ◌∙◌, subst}
+use Rattle.dj_syntax.specs.Trees.{Stm, Block, Stms}
 use Rattle.dj_values.specs.Outcomes.{Throws, More, Stuck, State, Outcome, Is, Stops, IsFront, actions_of, Below}
 use Rattle.dj_values.proofs.Growth.{front-refl, front-join, below-refl}
 use Rattle.dj_meaning.specs.StaticTypes.{Context, Scope}
 use Rattle.dj_meaning.specs.Runs.{Store}
 use Rattle.dj_meaning.specs.Completions.{Completion}
 use Rattle.dj_meaning.specs.Statements.{Place, First, Behind, Elsewhere}
-use Rattle.dj_meaning.specs.Meaning.{run}
-use Rattle.dj_meaning.specs.Preserving.{IsFree, at_label, IsStart, Preserves}
+use Rattle.dj_meaning.specs.Meaning.{run, run_statements}
+use Rattle.dj_meaning.specs.Preserving.{IsFree, at_label, IsStart, Preserves, IsBodyStart, PreservesBody, Keeps}
 
 front-below : {A : Type 0} (first second : Outcome Store A) → Below first second → IsFront (actions_of first) (actions_of second)
 front-below (Is result state) second e = subst (λ other. IsFront state.world.actions (actions_of other)) (sym e) (front-refl state.world.actions)
@@ -59,4 +59,53 @@ preserves-on first second third p q = record {
       let one = q.back context scope place state (start-on first second p context scope place state start) bound in
       let two = p.back context scope place state start one.0 in
       (two.0, below-join (run context scope bound place third state) (run context scope one.0 place second state) (run context scope two.0 place first state) one.1 two.1);
+}
+
+-- ---- the whole lists of bodies
+
+pub body-preserves-self : (list : Stms) → PreservesBody list list
+body-preserves-self list = record {
+  forth = λ context scope state start bound. below-refl (run_statements context scope bound list state);
+  back = λ context scope state start bound. (bound, below-refl (run_statements context scope bound list state));
+}
+
+-- a start of the first is one of the second
+body-start-on : (first second : Stms) → PreservesBody first second → (context : Context) (scope : Scope) (state : State Store) → IsBodyStart context scope first state → IsBodyStart context scope second state
+body-start-on first second p context scope state start = record {
+  typed = start.typed;
+  free = λ bound.
+      let behind = p.back context scope state start bound in
+      free-below First (run_statements context scope behind.0 first state) (run_statements context scope bound second state) behind.1 (start.free behind.0);
+}
+
+pub body-preserves-on : (first second third : Stms) → PreservesBody first second → PreservesBody second third → PreservesBody first third
+body-preserves-on first second third p q = record {
+  forth = λ context scope state start bound.
+      below-join (run_statements context scope bound first state) (run_statements context scope bound second state) (run_statements context scope bound third state) (p.forth context scope state start bound)
+      (q.forth context scope state (body-start-on first second p context scope state start) bound);
+  back = λ context scope state start bound.
+      let one = q.back context scope state (body-start-on first second p context scope state start) bound in
+      let two = p.back context scope state start one.0 in
+      (two.0, below-join (run_statements context scope bound third state) (run_statements context scope one.0 second state) (run_statements context scope two.0 first state) one.1 two.1);
+}
+
+-- ---- statements, and Blocks as the whole lists of bodies
+
+block-list : (list other : Stms) → Block list ≡ Block other → list ≡ other
+block-list list other e = ap (λ stm. list_of stm list) e
+  where
+    list_of : Stm → Stms → Stms
+    list_of (Block inner) outer = inner
+    list_of stm outer = outer
+
+pub keeps-self : (statement : Stm) → Keeps statement statement
+keeps-self statement = record {
+  statement = preserves-self statement;
+  body = λ list other is also. subst (PreservesBody list) (block-list list other (sym is ∙ also)) (body-preserves-self list);
+}
+
+pub keeps-on : (first second third : Stms) → Keeps (Block first) (Block second) → Keeps (Block second) (Block third) → Keeps (Block first) (Block third)
+keeps-on first second third p q = record {
+  statement = preserves-on (Block first) (Block second) (Block third) p.statement q.statement;
+  body = λ list other is also. body-preserves-on list second other (p.body list second is refl) (q.body second other refl also);
 }

@@ -80,6 +80,16 @@ declared_twice = refl
 declared_again : return_at 0 (And (Block (from_zero (only next))) (from_zero (only (return (variable 0))))) [] [] 0
 declared_again = refl
 
+-- a declaration under a label declares nothing for what follows
+abbrev labelled : Stm
+labelled = Labelled 1 (Declare (local 0) types.Int (Some (int 8)))
+
+declared_under_a_label : goes_on_at 0 (And labelled (only (return (variable 0)))) [] []
+declared_under_a_label = refl
+
+declared_behind_a_label : return_at 0 (And labelled (from_zero (only (return (variable 0))))) [] [] 0
+declared_behind_a_label = refl
+
 -- ---- choices and jumps
 
 an_if : return_at 0 (And (If (Truth false) (only (return (int 1))) (only (call 2))) (only (return (int 3)))) (told ∷ []) (act 2 ∷ []) 3
@@ -174,6 +184,10 @@ a_default = refl
 
 no_label : return_at 0 (And (Switch (int 1) (AndGroup (Some (pos 4) ∷ []) (only (call 1)) NoGroups)) (only (return (int 3)))) [] [] 3
 no_label = refl
+
+-- what is declared under a label is out of scope in the groups that follow
+declared_in_a_group : goes_on_at 0 (only (Switch (int 5) (AndGroup (Some (pos 4) ∷ []) (only labelled) (AndGroup (Some (pos 5) ∷ []) (And (Set (local 0) (int 8)) (only (return (variable 0)))) NoGroups)))) [] []
+declared_in_a_group = refl
 
 -- ---- exceptions
 

@@ -8,6 +8,7 @@ use Rattle.dj_names.specs.Types.{JType, StaticType, Of}
 use Rattle.dj_names.specs.Assignable.{object_name}
 use Rattle.dj_values.specs.Deciding.{is_name, is_type, is_array_clone, is_reference, is_some_and, is_subtype, is_interface}
 use Rattle.dj_kinds.specs.Search.{method_order}
+use Rattle.dj_kinds.specs.Own.{is_false_constructor}
 use Rattle.dj_kinds.specs.Choice.{Call}
 use Rattle.dj_meaning.specs.Members.{Method, Members, parameters, is_public, is_private, is_of_class, is_bridge}
 use Rattle.dj_meaning.specs.Visible.{members_of, methods_in, is_inherited, allows}
@@ -35,11 +36,12 @@ is_assignable headers (Of from) to = is_subtype headers from to
 -- ---- methods of one name and parameters
 
 -- a method of a class is seen by a search that starts at a class: below an interface its static and private methods aren't,
--- and of Object an interface sees only what is public and not static (8.4.8, 9.2)
+-- of Object an interface sees only what is public and not static (8.4.8, 9.2), and a constructor with a result is none (JVMS 2.9)
 abbrev pub is_seen : List Header → Name → Name → Method → Bool
 is_seen headers start class method =
     (is_name start class || not (is_interface headers class) || not (is_of_class method.flags || is_private method.flags))
     && (not (is_interface headers start) || is_interface headers class || (is_public method.flags && not (is_of_class method.flags)))
+    && not (is_false_constructor method.name method.descriptor)
 
 -- of these methods the first that is no bridge, and where all are bridges the first
 abbrev pub counting : List Method → Option Method

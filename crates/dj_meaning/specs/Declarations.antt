@@ -13,7 +13,7 @@ use Rattle.dj_meaning.specs.Completions.{Completion, Normal}
 -- the variable that a statement of a list declares for the rest of it, and its type (6.3)
 abbrev pub declared : Stm → Option (Var × JType)
 declared (Block list) = None
-declared (Labelled label statement) = declared statement
+declared (Labelled label statement) = None
 declared (Declare variable kind initial) = Some (variable, kind)
 declared (Set variable new) = None
 declared (SetField object name new) = None

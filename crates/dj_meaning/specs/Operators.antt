@@ -1,7 +1,7 @@
 -- What binary operators do with their operands' values (JLS 5.6, 15.17 to 15.24).
-use Rattle.std.specs.Prelude.{◌/◌, ◌^◌, ◌%◌, ◌==◌, ℕ, Bool, true, false, not, if◌then◌else◌, ℤ, pos, int_lt, int_le, int_rem, List, codes}
+use Rattle.std.specs.Prelude.{◌/◌, ◌^◌, ◌==◌, ℕ, Bool, true, false, not, if◌then◌else◌, ℤ, pos, int_lt, int_le, int_rem, unsigned_abs, List, codes}
 use Rattle.std.specs.Ordering.{int_eq}
-use Rattle.std.specs.Int.{Width, w32, w64, cast_signed, cast_unsigned, int_wrapping_add, int_wrapping_sub, int_wrapping_mul, int_wrapping_div, int_bit_and, int_bit_or, int_bit_xor, int_shl, int_shr}
+use Rattle.std.specs.Int.{Width, w32, w64, cast_signed, cast_unsigned, int_rem_euclid, int_wrapping_add, int_wrapping_sub, int_wrapping_mul, int_wrapping_div, int_bit_and, int_bit_or, int_bit_xor, int_shl, int_shr}
 use mir.Val.{bits}
 use Rattle.dj_names.specs.declared.header.Header.{Header}
 use Rattle.dj_syntax.specs.declared.operator.Op.{Op}
@@ -62,7 +62,7 @@ division operation left right =
 -- a shift by the low five bits of the distance, or six for a long
 abbrev pub shift : (Width → ℤ → ℕ → ℤ) → Value → Value → Reply Value
 shift operation left right =
-    with_shift left right (λ wide a b. Gives (number wide (operation (width wide) a (cast_unsigned w64 b % bits (width wide)))))
+    with_shift left right (λ wide a b. Gives (number wide (operation (width wide) a (unsigned_abs (int_rem_euclid b (pos (bits (width wide))))))))
 
 -- a comparison of two numbers
 abbrev pub comparison : (ℤ → ℤ → Bool) → Value → Value → Reply Value

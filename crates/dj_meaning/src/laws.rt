@@ -2,7 +2,7 @@
 
 ghost use Rattle.std.specs.Prelude.{◌≡◌, ℕ, false, Option};
 ghost use Rattle.dj_syntax.specs.declared.variable.Var.{Var};
-ghost use Rattle.dj_syntax.specs.Trees.{Stm, Stms};
+ghost use Rattle.dj_syntax.specs.Trees.{Stm, Block, Stms};
 ghost use Rattle.dj_values.specs.Values.{Value};
 ghost use Rattle.dj_values.specs.Outcomes.{State};
 ghost use Rattle.dj_meaning.specs.StaticTypes.{Context, Scope, is_same_variable};
@@ -13,7 +13,7 @@ ghost use Rattle.dj_meaning.specs.Variables.{EachInStms};
 ghost use Rattle.dj_meaning.specs.Monitors.{HoldsStill};
 ghost use Rattle.dj_meaning.specs.Ways.{all_ways, EndsSo};
 ghost use Rattle.dj_meaning.specs.Meaning.{run_all, run_then, run_statements};
-ghost use Rattle.dj_meaning.specs.Preserving.{Preserves};
+ghost use Rattle.dj_meaning.specs.Preserving.{Preserves, PreservesBody, Keeps};
 
 /// Statements that complete, or leave by an exception, give back the monitors that they enter, anywhere and as those of a body.
 /// This is said of the list of monitors that a run keeps: `holding` alone changes it, with each Enter and Exit that is shown.
@@ -42,8 +42,12 @@ pub fn lists_run_in_turn()
         → run_then context scope bound (joined first second) next ≡ run_then context scope bound first (run_then context (behind first scope) bound second next) }
 {}
 
-/// A statement preserves what it does itself, and rewrites one after another preserve it.
+/// A statement preserves what it does itself, and rewrites one after another preserve it. Blocks keep what they do as the whole list of a body too.
 pub fn rewrites_follow_one_another()
     ensures itself { (statement : Stm) → Preserves statement statement }
     ensures in_turn { (first second third : Stm) → Preserves first second → Preserves second third → Preserves first third }
+    ensures body_itself { (list : Stms) → PreservesBody list list }
+    ensures bodies_in_turn { (first second third : Stms) → PreservesBody first second → PreservesBody second third → PreservesBody first third }
+    ensures kept { (statement : Stm) → Keeps statement statement }
+    ensures kept_in_turn { (first second third : Stms) → Keeps (Block first) (Block second) → Keeps (Block second) (Block third) → Keeps (Block first) (Block third) }
 {}

@@ -1,18 +1,19 @@
 -- Lists with what stands behind them, and what a jump over them leaves.
-use Rattle.std.proofs.Common.{ℕ, ℤ, ◌+◌, Bool, true, false, not, ◌&&◌, ◌||◌, List, [], ◌∷◌, ◌++◌, Option, Some, None, ◌≡◌, refl, subst}
+use Rattle.std.proofs.Common.{ℕ, ℤ, ◌+◌, Bool, true, false, not, ◌&&◌, ◌||◌, List, Option, Some, None, ◌≡◌, refl, sym, subst}
 use Rattle.std.specs.Prelude.{is_some, if◌then◌else◌}
 use Rattle.std.proofs.lemmas.Bool.{and_parts, and_from, false≢true}
 use Rattle.dj_names.specs.declared.header.Header.{Header}
 use Rattle.dj_names.specs.Types.{JType}
 use Rattle.dj_syntax.specs.declared.variable.Var.{Var}
-use Rattle.dj_syntax.specs.Trees.{Stm, Labelled, Declare, Stms, Empty, And, Groups, NoGroups, AndGroup}
+use Rattle.dj_syntax.specs.Trees.{Stm, Declare, Stms, Empty, And, Groups, NoGroups, AndGroup}
+use Rattle.dj_syntax.specs.WellFormedTrees.{is_declaration}
 use Rattle.dj_syntax.specs.Weight.{weight_of}
 use Rattle.dj_values.specs.Outcomes.{State, Outcome}
 use Rattle.dj_meaning.specs.StaticTypes.{Scope}
 use Rattle.dj_meaning.specs.Runs.{Store, Meaning, pure, ◌>>=◌}
 use Rattle.dj_meaning.specs.Declarations.{declared, within, behind, opened, passed, passed_one}
 use Rattle.dj_meaning.specs.Completions.{Completion, Normal, Break, Continue, Return, Misfit, sequence}
-use Rattle.dj_meaning.specs.Statements.{Place, Behind, Elsewhere, is_labelled, label_for}
+use Rattle.dj_meaning.specs.Statements.{Place, Elsewhere, is_labelled, label_for}
 use Rattle.dj_places.specs.Constants.{Surroundings}
 use Rattle.dj_places.specs.Rules.{Holds}
 use Rattle.dj_reach.specs.declared.jump.Jump.{Jump}
@@ -40,9 +41,13 @@ no_type false other e = refl
 no_type true other e = absurd (false≢true e)
 
 pub declares_new : (around : Around) (place : Place) (scope : Scope) (p : ℕ) (m : Stm) → Holds (stm_types around place scope p m) → IsNew scope (declared m)
-declares_new around place scope p (Labelled label statement) t = declares_new (record around { targets = around.targets ++ jumps.Break label ∷ [] }) (Behind label) scope (p + 1) statement t.1.1
 declares_new around place scope p (Declare variable kind initial) t = no_type (is_some (scope variable)) (may_name_type around.site kind) t.0
 declares_new around place scope p m t = tt
+
+-- what is no declaration declares nothing
+pub declares_nothing : (m : Stm) → is_declaration m ≡ false → declared m ≡ None
+declares_nothing (Declare variable kind initial) e = absurd (false≢true (sym e))
+declares_nothing m e = refl
 
 -- ---- lists
 
@@ -110,7 +115,6 @@ sequences headers result targets around scope a z m ms h next k Misfit u i = abs
 -- ---- what is passed over
 
 pub passed_within : (m : Stm) (set : sets.Set) (x : Var) → passed_over m set x ≡ true → set x ≡ true
-passed_within (Labelled label statement) set x e = passed_within statement set x e
 passed_within (Declare variable kind initial) set x e = (and_parts _ (set x) e).1
 passed_within m set x e = e
 
@@ -129,7 +133,6 @@ module _ (headers : List Header) (result : Option JType) (targets : List Jump) (
   passes_one : (around : Around) (place : Place) (scope : Scope) (a : sets.Set) (p : ℕ) (s : State Store) (m : Stm) (next : Meaning Completion) → Holds (stm_types around place scope p m)
       → ((t : State Store) → Reaches headers (within (declared m) scope) (passed_over m a) z t → Ending (within (declared m) scope) (next t))
       → Reaches headers scope a z s → Ending scope (passed_one scope (declared m) next s)
-  passes_one around place scope a p s (Labelled label statement) next t k r = passes_one (record around { targets = around.targets ++ jumps.Break label ∷ [] }) (Behind label) scope a (p + 1) s statement next t.1.1 k r
   passes_one around place scope a p s (Declare variable kind initial) next t k r =
       let new : is_some (scope variable) ≡ false = no_type (is_some (scope variable)) (may_name_type around.site kind) t.0 in
       ends_locally (Some (variable, kind)) (opened scope variable >>= λ done. next) s r new

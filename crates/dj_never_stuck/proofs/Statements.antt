@@ -8,7 +8,7 @@ use Rattle.dj_syntax.specs.declared.variable.Var.{Var}
 use Rattle.dj_syntax.specs.Trees.{Exp, Exps, Stm, Block, Labelled, Declare, Set, SetField, SetStatic, SetElement, Run, If, While, Switch, Throw, Rethrow, Try, Synchronized, Construct, Do, For, Finally, Stms, Empty, And, Groups, NoGroups, AndGroup, Catches, NoCatches, AndCatch}
 use Rattle.dj_syntax.specs.Trees as trees
 use Rattle.dj_syntax.specs.Weight.{weight_of, weight_of_stms}
-use Rattle.dj_syntax.specs.WellFormedTrees.{has_no_catch}
+use Rattle.dj_syntax.specs.WellFormedTrees.{has_no_catch, is_declaration}
 use Rattle.dj_values.specs.Values.{RefValue, Ref}
 use Rattle.dj_values.specs.Fits.{IsThrowable}
 use Rattle.dj_values.specs.Deciding.{is_type, is_instance}
@@ -54,7 +54,7 @@ use Rattle.dj_never_stuck.proofs.Endings.{handles, finishes, last_hides, last_no
 use Rattle.dj_never_stuck.proofs.Calls.{constructs}
 use Rattle.dj_never_stuck.proofs.Values.{numbers, locks}
 use Rattle.dj_never_stuck.proofs.Stores.{normal, own_type, assigns, initialises, sets_field, sets_static, sets_an_element, returns_nothing_well, returns_value_well, throws_value, looks}
-use Rattle.dj_never_stuck.proofs.Lists.{declares_new, IsBehind, list_of, sequences, groups_passed_within, list_passes, group_completes, group_leaves, label_there, no_label_there}
+use Rattle.dj_never_stuck.proofs.Lists.{declares_new, declares_nothing, IsBehind, list_of, sequences, groups_passed_within, list_passes, group_completes, group_leaves, label_there, no_label_there}
 
 -- ---- small steps
 
@@ -110,8 +110,9 @@ module _ (running : Running) (order : IsInOrder running) (apart : IsInOrder (apa
     run_completes bound place targets scope a p q z s (Block list) n t d r =
         list_of running.headers running.result targets around scope a z s list (run_then (context running) scope bound list) (λ next h k. list_runs bound targets scope a (p + 1) (q + 1) z s list next h (taken_elsewhere targets (label_at place) n) t d r k)
     run_completes bound place targets scope a p q z s (Labelled label m) n t d r =
-        bind (run_completes bound (Behind label) (targets ++ jumps.Break label ∷ []) scope a (p + 1) (q + 1) z s m (taken_in_label label targets (label_at place) n) t.1.1 d r)
-        (takes_label running.headers running.result targets (label_at place) label (within (declared m) scope) (flow around (Some label) m a) z n t.1.0)
+        bind (subst (λ one. Done (targets ++ jumps.Break label ∷ []) (within one scope) (flow around (Some label) m a) z (run (context running) scope bound (Behind label) m s)) (declares_nothing m (not-true (is_declaration m) t.0))
+        (run_completes bound (Behind label) (targets ++ jumps.Break label ∷ []) scope a (p + 1) (q + 1) z s m (taken_in_label label targets (label_at place) n) t.1.1 d r))
+        (takes_label running.headers running.result targets (label_at place) label scope (flow around (Some label) m a) z n t.1.0)
     run_completes bound place targets scope a p q z s (Declare x kind initial) n t d r =
         let new : IsNew scope (Some (x, kind)) = declares_new (at targets) place scope p (Declare x kind initial) t in
         bind (opens x kind s r new) (λ done u m. initialises running order targets scope a (p + 1) (q + 1) z u x kind initial t.1.0 t.1.1 d m)

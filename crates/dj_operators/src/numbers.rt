@@ -1,7 +1,7 @@
 //! Operators on two numbers, and shifts (JLS 15.17 to 15.20, 15.22).
 
-ghost use Rattle.std.specs.Prelude.{◌≡◌, ◌<◌, ◌%◌, ◌⊎◌};
-ghost use Rattle.std.specs.Int.{w64, cast_unsigned};
+ghost use Rattle.std.specs.Prelude.{◌≡◌, ◌<◌, pos, unsigned_abs};
+ghost use Rattle.std.specs.Int.{int_rem_euclid};
 ghost use Rattle.dj_values.specs.Values.{Int, Long};
 ghost use Rattle.dj_values.specs.Views.{view_value};
 ghost use Rattle.dj_operators.specs.Computed.{view_computed};
@@ -75,20 +75,27 @@ pub fn of_numbers(operator: Op, left: &Value, right: &Value) -> Computed
     }
 }
 
-/// How far a shift goes: the low bits of the distance.
-fn places(distance: i64, most: u32) -> u32
-    requires some { most ≡ 32 ⊎ most ≡ 64 }
-    ensures places { result ≡ cast_unsigned w64 distance % most }
-    ensures below { result < most }
+/// How far an int is shifted: the low five bits of the distance.
+fn int_places(distance: i64) -> u32
+    ensures places { result ≡ unsigned_abs (int_rem_euclid distance (pos 32)) }
+    ensures below { result < 32 }
 {
-    (distance.cast_unsigned() % u64::from(most)) as u32
+    distance.rem_euclid(32) as u32
+}
+
+/// How far a long is shifted: the low six bits of the distance.
+fn long_places(distance: i64) -> u32
+    ensures places { result ≡ unsigned_abs (int_rem_euclid distance (pos 64)) }
+    ensures below { result < 64 }
+{
+    distance.rem_euclid(64) as u32
 }
 
 /// An int that is shifted.
 fn int_shifted(operator: Op, number: i32, distance: i64) -> Computed
     ensures shifted { IsShift operator → view_computed result ≡ operation_of operator (Int number) (Long distance) }
 {
-    let places = places(distance, 32);
+    let places = int_places(distance);
     match operator {
         Op::Shl => int(number << places),
         Op::Shr => int(number >> places),
@@ -116,7 +123,7 @@ fn int_shifted(operator: Op, number: i32, distance: i64) -> Computed
 fn long_shifted(operator: Op, number: i64, distance: i64) -> Computed
     ensures shifted { IsShift operator → view_computed result ≡ operation_of operator (Long number) (Long distance) }
 {
-    let places = places(distance, 64);
+    let places = long_places(distance);
     match operator {
         Op::Shl => long(number << places),
         Op::Shr => long(number >> places),

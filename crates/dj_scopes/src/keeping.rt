@@ -26,9 +26,9 @@ pub fn declared(statement: &Stm) -> Option<(Var, &JType)>
     ensures declared { option_map (λ one. (one.0, view_type one.1.now)) result ≡ spec.declared (view_stm statement.now) }
 {
     match statement {
-        Stm::Labelled(_, inner) => declared(inner.get()),
         Stm::Declare(variable, kind, _) => Some((*variable, kind)),
         Stm::Block(_)
+        | Stm::Labelled(_, _)
         | Stm::Set(_, _)
         | Stm::SetField(_, _, _)
         | Stm::SetStatic(_, _, _)

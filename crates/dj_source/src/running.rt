@@ -32,9 +32,10 @@ use crate::simple::{
 use crate::switches::{has_label, label_for};
 use crate::throwing::{is_instance, object};
 use dj_evaluating::{assign, evaluate, test};
-use dj_names::JType;
+use dj_names::{Items, JType};
 use dj_objects::{Method, Reply, Run};
 use dj_outside::Stop;
+use dj_scopes::Kept;
 use dj_static::Scope;
 use dj_syntax::{Catch, Exp, Group, Stm, Var};
 use dj_values::{Action, RefValue, Value};
@@ -109,6 +110,41 @@ fn step_on(
     }
 }
 
+/// A statement, in the scope that there is; what the variable was that it declares is kept.
+#[cycle(running)]
+fn run_kept(
+    method: &Method<'_>,
+    scope: &mut Scope,
+    run: &mut Run<'_>,
+    place: Place,
+    inner: &Stm,
+    kept: &mut Items<Kept>,
+) -> Result<Completion, Stop>
+    ensures done { Ends view_completion result (run_state run.new) (spec.run (context_of method.now) (scope_of scope.old) method.now.bound (view_place place) (view_stm inner.now) (run_state run.old)) }
+    ensures scope { WhereItEnds result (scope_back kept.new (scope_of scope.new) ≡ scope_back kept.old (scope_of scope.old)) }
+{
+    dj_scopes::keep_declared(method.alloc, scope, inner, kept)?;
+    run_statement(method, scope, run, place, inner)
+}
+
+/// A statement behind a label; what it declares is out of scope behind it.
+#[cycle(running)]
+fn run_inner(
+    method: &Method<'_>,
+    scope: &mut Scope,
+    run: &mut Run<'_>,
+    place: Place,
+    inner: &Stm,
+) -> Result<Completion, Stop>
+    ensures done { Ends view_completion result (run_state run.new) (spec.run (context_of method.now) (scope_of scope.old) method.now.bound (view_place place) (view_stm inner.now) (run_state run.old)) }
+    ensures scope { WhereItEnds result (scope_of scope.new ≡ scope_of scope.old) }
+{
+    let mut kept = Items::new(method.alloc);
+    let outcome = run_kept(method, scope, run, place, inner, &mut kept);
+    dj_scopes::put_back(scope, kept)?;
+    outcome
+}
+
 /// A labelled statement.
 #[cycle(running)]
 fn run_labelled(
@@ -119,9 +155,9 @@ fn run_labelled(
     label: u32,
 ) -> Result<Completion, Stop>
     ensures done { Ends view_completion result (run_state run.new) (spec.run (context_of method.now) (scope_of scope.old) method.now.bound Elsewhere (trees.Labelled label (view_stm inner.now)) (run_state run.old)) }
-    ensures scope { WhereItEnds result (scope_of scope.new ≡ within (declared (view_stm inner.now)) (scope_of scope.old)) }
+    ensures scope { WhereItEnds result (scope_of scope.new ≡ scope_of scope.old) }
 {
-    let completion = run_statement(method, scope, run, Place::Behind(label), inner)?;
+    let completion = run_inner(method, scope, run, Place::Behind(label), inner)?;
     taken(label, completion)
 }
 

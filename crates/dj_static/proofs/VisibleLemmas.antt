@@ -9,13 +9,13 @@ use Rattle.std.proofs.lemmas.List.Folds.{Any-from_list_any, list_any-from_Any}
 use Rattle.dj_names.specs.declared.header.Header.{Header}
 use Rattle.dj_names.specs.declared.members.MethodHead.{MethodHead}
 use Rattle.dj_names.specs.Headers.{Name, IsInterface, HasSuperclass, IsPath}
-use Rattle.dj_names.specs.Types.{JType, Boolean, Byte, Char, Short, Int, Long, Float, Double, Class, Array}
+use Rattle.dj_names.specs.Types.{JType, Boolean, Byte, Char, Short, Int, Long, Float, Double, Class, Array, view_descriptor}
 use Rattle.dj_names.specs.Assignable.{object_name}
 use Rattle.dj_values.specs.Deciding.{is_name, superclass_of, reaches, is_subclass, is_interface}
 use Rattle.dj_values.proofs.Deciding.{Decides-name, Decides-subclass}
 use Rattle.dj_kinds.specs.Access.{package_of, IsBelow, AllowsBelow, Allows}
 use Rattle.dj_kinds.specs.Inherited.{HasSuperclassInPackage, InheritsInPackage, IsInherited}
-use Rattle.dj_kinds.specs.Own.{IsSeen}
+use Rattle.dj_kinds.specs.Own.{is_false_constructor, IsSeen}
 use Rattle.dj_meaning.specs.Members.{view_method, is_public, is_private, is_protected, is_of_class}
 use Rattle.dj_meaning.specs.Visible.{is_in_package, superclass_in_package, is_inherited, is_none_or, is_below, allows_below, allows}
 use Rattle.dj_meaning.specs.Calls.{is_seen}
@@ -192,13 +192,19 @@ hides_in_object true false true false = refl
 hides_in_object true false false d = refl
 hides_in_object false b c d = refl
 
+pub Decides-false : (b : Bool) → Decides (not b) (b ≡ false)
+Decides-false true = (λ is. absurd (false≢true is), λ is. sym is)
+Decides-false false = (λ is. refl, λ is. refl)
+
 -- a search from a class sees a method of another
 pub Decides-seen : (headers : List Header) (start class : Name) (method : MethodHead) → Decides (is_seen headers start class (view_method method)) (IsSeen headers start class method)
 Decides-seen headers start class method =
-    Decides-and _ _
+    Decides-like (is_seen headers start class (view_method method)) (λ h. (h.0.0, h.0.1, h.1)) (λ h. ((h.0, h.1), h.2))
+    (Decides-and _ _ (Decides-and _ _
     (Decides-at _ _ (hides_below (is_name start class) (is_interface headers class) (is_of_class method.flags || is_private method.flags))
     (Decides-not _ (Decides-like (not (is_name start class) && is_interface headers class && (is_of_class method.flags || is_private method.flags)) (λ h. (h.0.0, h.0.1, h.1)) (λ h. ((h.0, h.1), h.2))
     (Decides-and _ _ (Decides-and _ _ (Decides-not _ (Decides-name start class)) (Decides-interface headers class)) (Decides-or _ _ (Decides-flag method.flags 8) (Decides-flag method.flags 2))))))
     (Decides-at _ _ (hides_in_object (is_interface headers start) (is_interface headers class) (is_public method.flags) (is_of_class method.flags))
     (Decides-not _ (Decides-like (is_interface headers start && not (is_interface headers class) && (not (is_public method.flags) || is_of_class method.flags)) (λ h. (h.0.0, h.0.1, h.1)) (λ h. ((h.0, h.1), h.2))
-    (Decides-and _ _ (Decides-and _ _ (Decides-interface headers start) (Decides-not _ (Decides-interface headers class))) (Decides-or _ _ (Decides-not _ (Decides-flag method.flags 1)) (Decides-flag method.flags 8))))))
+    (Decides-and _ _ (Decides-and _ _ (Decides-interface headers start) (Decides-not _ (Decides-interface headers class))) (Decides-or _ _ (Decides-not _ (Decides-flag method.flags 1)) (Decides-flag method.flags 8)))))))
+    (Decides-false (is_false_constructor method.name (view_descriptor method.descriptor))))

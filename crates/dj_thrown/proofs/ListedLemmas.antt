@@ -8,15 +8,16 @@ use Rattle.dj_names.specs.declared.members.ClassMembers.{ClassMembers}
 use Rattle.dj_names.specs.declared.members.MethodHead.{MethodHead}
 use Rattle.dj_names.specs.declared.members.Member.{Member}
 use Rattle.dj_names.specs.Headers.{Name, names, HasDistinctNames}
-use Rattle.dj_names.specs.Types.{JType, StaticType}
+use Rattle.dj_names.specs.Types.{JType, StaticType, view_descriptor}
 use Rattle.dj_values.proofs.Deciding.{Decides-name}
 use Rattle.dj_kinds.specs.Search.{IsFirstIn}
-use Rattle.dj_kinds.specs.Own.{IsOverload, IsBridge, IsSeen, Counts, HasOwnMethod}
+use Rattle.dj_kinds.specs.Own.{IsOverload, IsBridge, IsHiddenBelow, IsHiddenInObject, is_false_constructor, IsSeen, Counts, HasOwnMethod}
 use Rattle.dj_kinds.specs.Choice.{Call, searched_class, IsMethodAt, parameters, IsChosen, IsChosenIn}
 use Rattle.dj_meaning.specs.Members.{Method, view_method, view_members}
 use Rattle.dj_meaning.specs.Calls.{MethodIn, chosen}
 use Rattle.dj_static.specs.Targets.{meant, meant_in}
 use Rattle.dj_static.proofs.TypeLemmas.{Decides-types}
+use Rattle.dj_static.proofs.VisibleLemmas.{Decides-false}
 use Rattle.dj_static.proofs.WalkLemmas.{place_is}
 use Rattle.dj_static.proofs.ChosenLemmas.{IsOne, one_method, ChosenFound, none_is, one_is, chosen_found}
 use Rattle.dj_static.proofs.TargetLemmas.{none_meant}
@@ -27,12 +28,14 @@ use Rattle.dj_thrown.specs.Listed.{methods_in, methods_of, is_method, clause_of,
 
 -- what a test of methods decides
 abbrev IsAlike : MethodHead → MethodHead → Type 0
-IsAlike method other = (other.flags ≡ method.flags) × (other.name ≡ method.name) × (parameters other ≡ parameters method)
+IsAlike method other =
+    (other.flags ≡ method.flags) × (other.name ≡ method.name) × (parameters other ≡ parameters method) × (is_false_constructor other.name (view_descriptor other.descriptor) ≡ false)
 
 Decides-method : (method other : MethodHead) → Decides (is_method (view_method method) other) (IsAlike method other)
 Decides-method method other =
-    Decides-like (is_method (view_method method) other) (λ h. (h.0, h.1.0, h.1.1)) (λ h. (h.0, (h.1, h.2)))
-    (Decides-and _ _ (Decides-eqb other.flags method.flags) (Decides-and _ _ (Decides-name other.name method.name) (Decides-types (parameters other) (parameters method))))
+    Decides-like (is_method (view_method method) other) (λ h. (h.0.0, h.0.1.0, h.0.1.1, h.1)) (λ h. ((h.0, (h.1, h.2)), h.3))
+    (Decides-and _ _ (Decides-and _ _ (Decides-eqb other.flags method.flags) (Decides-and _ _ (Decides-name other.name method.name) (Decides-types (parameters other) (parameters method))))
+    (Decides-false (is_false_constructor other.name (view_descriptor other.descriptor))))
 
 find_by : (test : MethodHead → Bool) (first : MethodHead) (rest : List MethodHead) (at : ℕ) (method : MethodHead) (b : Bool) → test first ≡ b → slice_get (first ∷ rest) at ≡ Some method → test method ≡ true
     → ((earlier : ℕ) (other : MethodHead) → earlier < at → slice_get (first ∷ rest) earlier ≡ Some other → test other ≡ true → ⊥)
@@ -55,10 +58,15 @@ find_first test (first ∷ rest) (suc at) method there passes not_before =
 
 -- ---- what counts is the first that is alike
 
--- a method is seen by its flags
-seen_so : (headers : List Header) (start class : Name) (method other : MethodHead) → other.flags ≡ method.flags → IsSeen headers start class method → IsSeen headers start class other
-seen_so headers start class method other same seen =
-    subst (λ (flags : ℕ). IsSeen headers start class (record { flags = flags; name = other.name; descriptor = other.descriptor; thrown = other.thrown })) (sym same) seen
+-- a method is seen by its flags, where it is no constructor with a result
+seen_so : (headers : List Header) (start class : Name) (method other : MethodHead) → other.flags ≡ method.flags → is_false_constructor other.name (view_descriptor other.descriptor) ≡ false
+    → IsSeen headers start class method → IsSeen headers start class other
+seen_so headers start class method other same is seen =
+    let with_flags : ℕ → MethodHead = λ flags. record { flags = flags; name = other.name; descriptor = other.descriptor; thrown = other.thrown } in (
+      subst (λ (flags : ℕ). ¬ IsHiddenBelow headers start class (with_flags flags)) (sym same) seen.0,
+      subst (λ (flags : ℕ). ¬ IsHiddenInObject headers start class (with_flags flags)) (sym same) seen.1,
+      is,
+    )
 
 bridge_so : (method other : MethodHead) → other.flags ≡ method.flags → IsBridge other → IsBridge method
 bridge_so method other same bridge = subst (λ (flags : ℕ). IsBridge (record { flags = flags; name = other.name; descriptor = other.descriptor; thrown = other.thrown })) same bridge
@@ -77,12 +85,17 @@ module _ (headers : List Header) (start class : Name) (methods : List MethodHead
   none_alike (inl first) earlier other below held alike =
       let same : first.item ≡ method = same_Some first.item method (sym first.is ∙ there) in
       let holds : Plain method = subst Plain same first.holds in
-      first.first earlier other below held ((alike.1, alike.2), seen_so headers start class method other alike.0 holds.1, λ bridge. holds.2 (bridge_so method other alike.0 bridge))
+      first.first earlier other below held ((alike.1, alike.2), seen_so headers start class method other alike.0 alike.3 holds.1, λ bridge. holds.2 (bridge_so method other alike.0 bridge))
   none_alike (inr any) earlier other below held alike =
       let first = any.1 in
       let same : first.item ≡ method = same_Some first.item method (sym first.is ∙ there) in
       let holds : Any method = subst Any same first.holds in
-      first.first earlier other below held ((alike.1, alike.2), seen_so headers start class method other alike.0 holds.1)
+      first.first earlier other below held ((alike.1, alike.2), seen_so headers start class method other alike.0 alike.3 holds.1)
+
+  -- what counts is no constructor with a result
+  counted_constructor : Counts method.name (parameters method) Seen methods at → is_false_constructor method.name (view_descriptor method.descriptor) ≡ false
+  counted_constructor (inl first) = (subst Plain (same_Some first.item method (sym first.is ∙ there)) first.holds).1.2
+  counted_constructor (inr any) = (subst Any (same_Some any.1.item method (sym any.1.is ∙ there)) any.1.holds).1.2
 
 -- what is found first is had by a class
 had : {A : Type 0} (Own : Name → A → Type 0) (classes : List Name) (member : A) → IsFirstIn Own classes member → (class : Name) × Own class member
@@ -129,15 +142,12 @@ module _ (setting : Setting) (from : Name) (receiver : JType) (through : Option 
         let counts : Counts method.name (parameters method) (IsSeen setting.headers class own.0) at.declared.methods member.number =
         subst (λ (d : ClassMembers). Counts method.name (parameters method) (IsSeen setting.headers class own.0) d.methods member.number) declared own.1.picked in
         let first : find (is_method (view_method method)) at.declared.methods ≡ Some method =
-        find_first (is_method (view_method method)) at.declared.methods member.number method at.number ((Decides-method method method).1 (alike_itself method))
+        find_first (is_method (view_method method)) at.declared.methods member.number method at.number ((Decides-method method method).1 (refl, refl, refl, counted_constructor setting.headers class own.0 at.declared.methods member.number method at.number counts))
         (λ earlier other below held passes. none_alike setting.headers class own.0 at.declared.methods member.number method at.number counts earlier other below held ((Decides-method method other).0 passes)) in
         let same : one.method ≡ view_method method = is.method_is ∙ ap view_method (one_method setting.headers setting.members member is.method method is.at at) in
         tells method at
         ∙ sym (ap (λ (m : Method). clause_of (find (is_method m) (methods_of setting.headers setting.members one.owner))) same
         ∙ ap (λ methods. clause_of (find (is_method (view_method method)) methods)) (methods_at one.owner method at is.owner) ∙ ap clause_of first)
-      where
-        alike_itself : (m : MethodHead) → IsAlike m m
-        alike_itself m = (refl, refl, refl)
 
     one_by : (class : Name) → IsChosen setting.headers setting.members (call class) member → (found : Option MethodIn) → ChosenFound setting.headers setting.members distinct (call class) found
         → clause ≡ listed_by setting found

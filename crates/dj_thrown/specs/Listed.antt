@@ -1,13 +1,14 @@
 -- The classes that the throws clause of the method lists that a call means (JLS 8.4.6, 8.8.5, 11.2.1). A call that means no method lists none,
 -- nor does one with an argument that has no type.
-use Rattle.std.specs.Prelude.{Bool, ◌&&◌, ◌==◌, List, [], Option, Some, None, option_and_then, slice_get, find, length, codes, if◌then◌else◌}
+use Rattle.std.specs.Prelude.{Bool, not, ◌&&◌, ◌==◌, List, [], Option, Some, None, option_and_then, slice_get, find, length, codes, if◌then◌else◌}
 use Rattle.dj_names.specs.declared.header.Header.{Header}
 use Rattle.dj_names.specs.declared.members.ClassMembers.{ClassMembers}
 use Rattle.dj_names.specs.declared.members.MethodHead.{MethodHead}
 use Rattle.dj_names.specs.Headers.{Name}
-use Rattle.dj_names.specs.Types.{JType, Class, StaticType}
+use Rattle.dj_names.specs.Types.{JType, Class, StaticType, view_descriptor}
 use Rattle.dj_values.specs.Deciding.{is_name, is_type, is_array}
 use Rattle.dj_kinds.specs.Search.{header_of, superclass_in}
+use Rattle.dj_kinds.specs.Own.{is_false_constructor}
 use Rattle.dj_meaning.specs.Members.{Method, view_method, parameters}
 use Rattle.dj_meaning.specs.Calls.{MethodIn, all_pairs}
 use Rattle.dj_static.specs.Walks.{place_of}
@@ -25,9 +26,11 @@ methods_in (Some declared) = declared.methods
 abbrev pub methods_of : List Header → List ClassMembers → Name → List MethodHead
 methods_of headers members class = methods_in (option_and_then (λ at. slice_get members at) (place_of headers class))
 
--- it is this method by its flags, its name and its parameters
+-- it is this method by its flags, its name and its parameters; a constructor has no result besides
 abbrev pub is_method : Method → MethodHead → Bool
-is_method method head = (head.flags == method.flags) && (is_name head.name method.name && all_pairs is_type (parameters (view_method head)) (parameters method))
+is_method method head =
+    (head.flags == method.flags) && (is_name head.name method.name && all_pairs is_type (parameters (view_method head)) (parameters method))
+    && not (is_false_constructor head.name (view_descriptor head.descriptor))
 
 -- what the throws clause of a method lists
 abbrev pub clause_of : Option MethodHead → List Name

@@ -170,7 +170,7 @@ pub fn pass(
         }
         Stm::Labelled(_, statement) => {
             walk.step();
-            pass(alloc, classes, scope, held, statement.get(), walk)
+            pass_inner(alloc, classes, scope, held, statement.get(), walk)
         }
         Stm::Declare(variable, kind, initial) => {
             pass_declare(alloc, classes, scope, *variable, kind, initial, walk)
@@ -244,6 +244,46 @@ pub fn pass(
             pass_list(alloc, classes, scope, held, last, walk)
         }
     }
+}
+
+/// Walks past a statement, which goes on in the scope that there is; what the variable was that it
+/// declares is kept.
+#[cycle(pass)]
+fn pass_kept(
+    alloc: Global,
+    classes: &Classes<'_>,
+    scope: &mut Scope,
+    held: &mut Items<Held>,
+    kept: &mut Items<Kept>,
+    statement: &Stm,
+    walk: &mut Walk,
+) -> Result<(), AllocError>
+    ensures walked { IfOk result (λ _. walk.new ≡ spec.pass (setting_of classes.now) held.old (scope_of scope.old) (view_stm statement.now) walk.old) }
+    ensures held { OnOk result (held.new ≡ held.old) }
+    ensures kept { OnOk result (scope_back kept.new (scope_of scope.new) ≡ scope_back kept.old (scope_of scope.old)) }
+{
+    keep_declared(alloc, scope, statement, kept)?;
+    pass(alloc, classes, scope, held, statement, walk)?;
+    Ok(())
+}
+
+/// Walks past the statement behind a label; what it declares is its alone.
+#[cycle(pass)]
+fn pass_inner(
+    alloc: Global,
+    classes: &Classes<'_>,
+    scope: &mut Scope,
+    held: &mut Items<Held>,
+    statement: &Stm,
+    walk: &mut Walk,
+) -> Result<(), AllocError>
+    ensures walked { IfOk result (λ _. walk.new ≡ spec.pass (setting_of classes.now) held.old (scope_of scope.old) (view_stm statement.now) walk.old) }
+    ensures held { OnOk result (held.new ≡ held.old) }
+    ensures scope { OnOk result (scope_of scope.new ≡ scope_of scope.old) }
+{
+    let mut kept = Items::new(alloc);
+    pass_kept(alloc, classes, scope, held, &mut kept, statement, walk)?;
+    put_back(scope, kept)
 }
 
 /// Walks past statements, which go on in the scope that there is; what the variables were that they

@@ -3,3 +3,4 @@ pub mod Stores
 pub mod Switches
 pub mod Statements
 pub mod Bodies
+pub use Rattle.dj_assigned.specs.Assigned

@@ -1,5 +1,5 @@
--- The rules on expressions at worked examples (JLS 15): the first rule that is broken, or none. Java compilers say the same but of one, which says so.
-use Rattle.std.proofs.Common.{◌≡◌, ℕ, true, false, List, [], ◌∷◌, Option, Some, None, refl}
+-- The rules on expressions at worked examples (JLS 15): the first rule that is broken, or none. Java compilers say the same but of two, which say so.
+use Rattle.std.proofs.Common.{◌≡◌, ℕ, Bool, true, false, List, [], ◌∷◌, Option, Some, None, refl}
 use Rattle.std.specs.Prelude.{pos, codes}
 use Rattle.dj_names.specs.declared.header.Header.{Header}
 use Rattle.dj_names.specs.Headers.{Name}
@@ -8,18 +8,18 @@ use Rattle.dj_names.specs.Types.{JType, Boolean, Byte, Class, Array}
 use Rattle.dj_syntax.specs.declared.variable.Var.{Var}
 use Rattle.dj_syntax.specs.declared.variable.VarKind.TheVariants.{Param, Local}
 use Rattle.dj_syntax.specs.declared.operator.Op.TheVariants as op
-use Rattle.dj_syntax.specs.Trees.{Exp, Text, Truth, Null, This, Variable, Field, Element, Call, StaticCall, New, NewArray, Cast, InstanceOf, Negative, Not, Binary, Choice, Assign, NoExps, AndExp}
+use Rattle.dj_syntax.specs.Trees.{Exp, Text, Truth, Null, This, Variable, ClassOf, Field, Element, Call, StaticCall, SuperCall, New, NewArray, Cast, InstanceOf, Negative, Not, Binary, Choice, Assign, NoExps, AndExp}
 use Rattle.dj_syntax.specs.Trees as trees
 use Rattle.dj_meaning.specs.Members.{Members}
 use Rattle.dj_meaning.specs.StaticTypes.{Scope}
 use Rattle.dj_meaning.specs.Meaning.{of_parameter}
-use Rattle.dj_places.specs.declared.kind.TypeKind.TheVariants as kinds
+use Rattle.dj_faults.specs.TypeKind.TheVariants as kinds
 use Rattle.dj_faults.specs.declared.fault.Fault.{Fault}
 use Rattle.dj_faults.specs.Faults.{first_fault}
 use Rattle.dj_typing.specs.Sites.{Site}
 use Rattle.dj_typing.specs.Expressions.{exp_types, effect_types}
 
--- ---- classes: `C`, the final class `F`, the interface `I`, and those of java/lang that they stand on
+-- ---- classes: `C`, the final class `F`, the interface `I`, `D` that implements it, and those of java/lang that they stand on
 
 abbrev object : Name
 object = codes "java/lang/Object"
@@ -30,12 +30,14 @@ headers =
     ∷ record { name = codes "F"; superclass = Some object; interfaces = []; flags = 0x0031 }
     ∷ record { name = codes "I"; superclass = Some object; interfaces = []; flags = 0x0601 }
     ∷ record { name = object; superclass = None; interfaces = []; flags = 0x0021 }
-    ∷ record { name = codes "java/lang/String"; superclass = Some object; interfaces = []; flags = 0x0031 } ∷ []
+    ∷ record { name = codes "java/lang/String"; superclass = Some object; interfaces = []; flags = 0x0031 }
+    ∷ record { name = codes "D"; superclass = Some object; interfaces = codes "I" ∷ []; flags = 0x0021 }
+    ∷ record { name = codes "java/lang/Class"; superclass = Some object; interfaces = []; flags = 0x0031 } ∷ []
 
 abbrev none : Members
 none = record { fields = []; methods = [] }
 
--- `static int m(int)`, the constructor of nothing and `static void n()`, of C
+-- `static int m(int)`, the constructor of nothing and `static void n()`, of C; `default int k()`, of I
 abbrev members : List Members
 members =
     record {
@@ -45,11 +47,15 @@ members =
           ∷ record { flags = 0x0001; name = codes "<init>"; descriptor = types.Method [] None }
           ∷ record { flags = 0x0008; name = codes "n"; descriptor = types.Method [] None } ∷ [];
     }
-    ∷ none ∷ none ∷ none ∷ none ∷ []
+    ∷ none ∷ record { fields = []; methods = record { flags = 0x0001; name = codes "k"; descriptor = types.Method [] (Some types.Int) } ∷ [] } ∷ none ∷ none ∷ none ∷ none ∷ []
 
 -- a static body of C
 abbrev site : Site
 site = record { headers = headers; members = members; class = codes "C"; has_this = false; can_say = λ name. true; can_name = λ name. true }
+
+-- a body of D that isn't static, and whose text can say the name of each class or of none
+abbrev site_of_d : Bool → Site
+site_of_d said = record { headers = headers; members = members; class = codes "D"; has_this = true; can_say = λ name. said; can_name = λ name. true }
 
 -- int p0, byte p1, boolean p2, C p3, F p4, I p5, int[] p6, String p7
 abbrev scope : Scope
@@ -181,3 +187,20 @@ nothing_alone = refl
 -- C.m(C.n())
 nothing_given : fault (StaticCall (codes "C") (codes "m") (AndExp (StaticCall (codes "C") (codes "n") NoExps) NoExps)) ≡ Some (record { place = 1; kind = kinds.WrongType })
 nothing_given = refl
+
+-- C.class, int[].class; and int.class, which Java compilers take, and of which no bytecode has a literal
+class_literal : fault (ClassOf (Class (codes "C"))) ≡ None
+class_literal = refl
+
+array_literal : fault (ClassOf (Array types.Int)) ≡ None
+array_literal = refl
+
+number_literal : fault (ClassOf types.Int) ≡ Some (record { place = 0; kind = kinds.Name })
+number_literal = refl
+
+-- I.super.k(), where D's text can say the name of I, and where it can't
+above_said : first_fault (exp_types (site_of_d true) scope 0 (SuperCall (Some (codes "I")) (codes "k") NoExps)) ≡ None
+above_said = refl
+
+above_hidden : first_fault (exp_types (site_of_d false) scope 0 (SuperCall (Some (codes "I")) (codes "k") NoExps)) ≡ Some (record { place = 0; kind = kinds.Name })
+above_hidden = refl

@@ -17,8 +17,8 @@ use Rattle.dj_meaning.specs.Fields.{selected, named_field}
 use Rattle.dj_meaning.specs.Members.{has_flag}
 use Rattle.dj_meaning.specs.Targets.{Target, result}
 use Rattle.dj_meaning.specs.StaticTypes.{Scope, plain, type_of, types_of, object_target, class_target, super_target, new_target}
-use Rattle.dj_places.specs.Rules.{Rules, NoRule, Rule, ◌and◌}
-use Rattle.dj_places.specs.declared.kind.TypeKind.TheVariants as kinds
+use Rattle.dj_faults.specs.Rules.{Rules, NoRule, Rule, ◌and◌}
+use Rattle.dj_faults.specs.TypeKind.TheVariants as kinds
 use Rattle.dj_typing.specs.Sites.{Site, context_of, is_whole_type, may_name, may_name_type}
 use Rattle.dj_typing.specs.Casting.{is_number, may_be_of, may_cast}
 use Rattle.dj_typing.specs.Operands.{is_of, is_boolean, is_int, operands_of, takes, agree, if_typed, if_both}
@@ -83,10 +83,10 @@ means_abstract site above name (Some arguments) =
     is_some_and (option_and_then (λ class. chosen site.headers site.members (record { from = site.class; class = class; through = None; name = name; arguments = arguments })) (above_of site above))
     (λ (one : MethodIn). has_flag 0x0400 one.method.flags)
 
--- `super` may stand so: in no interface alone, behind the name of an interface where the class lists it (15.12.1)
+-- `super` may stand so: in no interface alone, behind the name of an interface where the class lists it (15.12.1) and its text can say the name
 abbrev pub has_super : Site → Option Name → Bool
 has_super site None = not (is_interface site.headers site.class)
-has_super site (Some interface) = list_any (λ listed. is_name listed interface) (interfaces_of site.headers site.class)
+has_super site (Some interface) = list_any (λ listed. is_name listed interface) (interfaces_of site.headers site.class) && site.can_say interface
 
 -- a class of which no object is made: with ACC_ABSTRACT, as interfaces have it too (15.9.1; JVMS table 4.1-A)
 abbrev pub is_abstract : List Header → Name → Bool
@@ -141,7 +141,7 @@ abbrev mutual
   exp_types site scope place Null = NoRule
   exp_types site scope place This = Rule place kinds.Name site.has_this and whole site scope place This
   exp_types site scope place (Variable variable) = Rule place kinds.Name (is_some (scope variable)) and whole site scope place (Variable variable)
-  exp_types site scope place (ClassOf kind) = Rule place kinds.Name (may_name_type site kind) and whole site scope place (ClassOf kind)
+  exp_types site scope place (ClassOf kind) = Rule place kinds.Name (is_reference kind && may_name_type site kind) and whole site scope place (ClassOf kind)
   exp_types site scope place (Field object name) =
       Rule place kinds.Name (site.can_name name)
       and Rule place kinds.Access (if_typed (type_of (context_of site) scope object) (selects site name))

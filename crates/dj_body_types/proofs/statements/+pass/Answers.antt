@@ -11,6 +11,10 @@ use Rattle.dj_body_types.specs.Walks.{pass_list}
 use Rattle.dj_body_types.proofs.WalkLemmas.{list_more, list_all, group_more, groups_all}
 use Rattle.dj_body_types.proofs.statements.+pass.Goals as goal
 
+pub pass_inner-returns-clause-kept : goal.pass_inner-returns-clause-kept
+pass_inner-returns-clause-kept t c =
+    scope_kept c.args.kept.now c.keep_declared.new.kept _ (scope_of c.args.scope.now) (scope_of c.pass.new.scope) c.in_ok-keep_declared.ensures.kept c.in_ok-pass.ensures.scope
+
 pub pass_open-loop-statement-preserved : goal.pass_open-loop-statement-preserved
 pass_open-loop-statement-preserved t c = record {
   walked =

@@ -33,6 +33,18 @@ use Rattle.dj_source.proofs.PieceLemmas.{if_stops, if_ends, labelled_stops, labe
 use Rattle.dj_headers.proofs.TypeViews.{view-class}
 use Rattle.dj_source.proofs.running.+running.Goals as goal
 
+pub run_kept-returns-clause-scope : goal.run_kept-returns-clause-scope
+run_kept-returns-clause-scope t c =
+    let scope = scope_of c.args.scope.now in
+    let after = scope_of c.run_statement.new.scope in
+    let kept = c.keep_declared.new.kept in
+    let one = declared (view_stm c.args.inner.now) in
+    where_then c.run_statement.result (after ≡ within one scope) (scope_back kept after ≡ scope_back c.args.kept.now scope) (scope_kept c.args.kept.now kept one scope after c.in_ok-keep_declared.ensures.kept) c.run_statement.ensures.scope
+
+pub run_inner-returns-clause-scope : goal.run_inner-returns-clause-scope
+run_inner-returns-clause-scope t c =
+    where_then c.run_kept-outcome.result _ _ (λ is. c.in_ok-put_back.ensures.put ∙ is ∙ ap (λ list. scope_back list (scope_of c.args.scope.now)) c.new-kept.ensures) c.run_kept-outcome.ensures.scope
+
 pub run_labelled-returns-in_err-completion : goal.run_labelled-returns-in_err-completion
 run_labelled-returns-in_err-completion t c =
     let p = err_from_is_err_and c.from_residual.result c.from_residual.ensures.1 in
@@ -41,7 +53,7 @@ run_labelled-returns-in_err-completion t c =
     let scope = scope_of c.args.scope.now in
     let old = run_state c.args.run.now in
     let inner = view_stm c.args.inner.now in
-    let middle = run_state c.run_statement.new.run in
+    let middle = run_state c.run_inner.new.run in
     rw (p.1, p.2) record {
       done = labelled_stops context scope bound old middle c.args.label inner c.in_err-completion.field-0.0 c.in_err-completion.ensures.done;
       scope = c.in_err-completion.ensures.scope;
@@ -54,7 +66,7 @@ run_labelled-returns t c =
     let scope = scope_of c.args.scope.now in
     let old = run_state c.args.run.now in
     let inner = view_stm c.args.inner.now in
-    let middle = run_state c.run_statement.new.run in
+    let middle = run_state c.run_inner.new.run in
     record {
       done = labelled_ends context scope bound old middle c.args.label inner c.taken.result (view_completion c.in_ok-completion.completion) c.in_ok-completion.ensures.done (c.taken.ensures.taken middle);
       scope = where_same c.taken.result _ c.in_ok-completion.ensures.scope;
