@@ -43,7 +43,7 @@ fn copy_units(alloc: Global, name: &Option<Units>) -> Result<Option<Units>, Allo
 }
 
 /// A method's name, where no text can say it.
-fn unsaid_method_name(alloc: Global, name: &Units) -> Result<Option<Units>, AllocError>
+pub fn unsaid_method_name(alloc: Global, name: &Units) -> Result<Option<Units>, AllocError>
     ensures unsaid { IfOk result (IsLeastIfAny (λ other. ¬ IsMethodName name.now × (other ≡ name.now))) }
 {
     if is_method_name(name) {
@@ -54,7 +54,7 @@ fn unsaid_method_name(alloc: Global, name: &Units) -> Result<Option<Units>, Allo
 }
 
 /// Whether a name is an identifier, or that of a constructor or of a static initialiser.
-fn is_method_name(name: &Units) -> bool
+pub fn is_method_name(name: &Units) -> bool
     ensures name { IsTrue result ↔ IsMethodName name.now }
 {
     is_constructor(name) || is_initialiser(name) || is_identifier(name)

@@ -122,7 +122,9 @@ impl Tables {
         requires made { AreTables world.now (view_class class.now) self.now }
         ensures first { IfOk result (λ found. MatchOption found ((name : Name) → ¬ IsFirstUnsaid world.now (view_class class.now) name) (IsFirstUnsaid world.now (view_class class.now))) }
     {
-        let own = self.scope.is_unobscured(alloc, &class.this_class)?;
+        let own = self
+            .scope
+            .is_unobscured(alloc, world.headers(), &class.this_class)?;
         if own {
             let parent = first_unsaid_parent(alloc, world, &self.scope, class)?;
             Ok(parent)

@@ -73,7 +73,7 @@ pub fn unsaid_name(
 }
 
 /// The least of these names that the text of a class can't say.
-fn least_of(
+pub fn least_of(
     alloc: Global,
     world: &World,
     scope: &Scope,
@@ -106,7 +106,11 @@ pub fn least_unsaid(
 }
 
 /// Puts a name behind the others.
-fn add_name(alloc: Global, names: &mut Items<ClassName>, name: &ClassName) -> Result<(), AllocError>
+pub fn add_name(
+    alloc: Global,
+    names: &mut Items<ClassName>,
+    name: &ClassName,
+) -> Result<(), AllocError>
     ensures added { OnOk result (names.new ≡ names.old ++ name.now ∷ []) }
 {
     let copy = name.copy(alloc)?;
@@ -128,7 +132,7 @@ pub fn common_names(alloc: Global, class: &ClassName) -> Result<Items<ClassName>
 }
 
 /// Puts the class that a type names behind the others.
-fn add_type(alloc: Global, names: &mut Items<ClassName>, kind: &JType) -> Result<(), AllocError>
+pub fn add_type(alloc: Global, names: &mut Items<ClassName>, kind: &JType) -> Result<(), AllocError>
     ensures gains { OnOk result (Gains names.old names.new (λ name. class_of (view_type kind.now) ≡ Some name)) }
 {
     match class_of(kind) {
@@ -168,7 +172,7 @@ fn add_result(
 }
 
 /// Puts the classes that a descriptor names behind the others.
-fn add_descriptor(
+pub fn add_descriptor(
     alloc: Global,
     names: &mut Items<ClassName>,
     descriptor: &Descriptor,
@@ -192,7 +196,7 @@ fn add_descriptor(
 }
 
 /// Puts names behind others.
-fn add_all(
+pub fn add_all(
     alloc: Global,
     names: &mut Items<ClassName>,
     more: &[ClassName],

@@ -60,7 +60,7 @@ all_front P [] last all = (tt, all.0)
 all_front P (first ∷ front) last all = let rest = all_front P front last all.1 in ((all.0, rest.0), rest.1)
 
 -- the item at a place, and the rest behind it
-head_at : {A : Type 0} (xs : List A) (at : ℕ) (x : A) (rest : List A) → drop at xs ≡ x ∷ rest → (slice_get xs at ≡ Some x) × (drop (at + 1) xs ≡ rest)
+pub head_at : {A : Type 0} (xs : List A) (at : ℕ) (x : A) (rest : List A) → drop at xs ≡ x ∷ rest → (slice_get xs at ≡ Some x) × (drop (at + 1) xs ≡ rest)
 head_at [] zero x rest is = absurd cc
 head_at [] (suc at) x rest is = absurd cc
 head_at (y ∷ ys) zero x rest is = (cc, cc)

@@ -4,3 +4,4 @@ pub mod FlagLemmas
 pub mod StableLemmas
 pub mod FormedLemmas
 pub mod Examples
+pub mod ApartLemmas

@@ -6,3 +6,5 @@ pub mod Helpers
 pub mod ClassText
 -- What the law of well formed units rests on.
 pub mod Formed
+-- What the law of units whose members don't clash says.
+pub mod Apart

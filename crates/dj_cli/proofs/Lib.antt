@@ -2,6 +2,7 @@ pub mod FindingLemmas
 pub mod FieldsLemmas
 pub mod FilesLemmas
 pub mod MethodsLemmas
+pub mod ApartLemmas
 pub mod PiecesLemmas
 pub mod TellingLemmas
 pub mod RunLemmas

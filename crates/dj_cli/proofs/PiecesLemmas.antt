@@ -1,5 +1,5 @@
 -- The unit of a class that no cause refuses is well formed, and with the lines on its members it is the class's piece.
-use Rattle.std.proofs.Common.{◌≡◌, ℕ, ◌+◌, List, ◌++◌, Option, length, refl, subst, arith}
+use Rattle.std.proofs.Common.{◌≡◌, ℕ, ◌+◌, List, [], ◌++◌, Option, length, refl, sym, subst, arith}
 use Rattle.dj_class.specs.Described.{ClassOf}
 use Rattle.dj_world.specs.Worlds.{WorldOf}
 use Rattle.dj_syntax.specs.Trees.{Body, CompilationUnit}
@@ -13,9 +13,11 @@ use Rattle.dj_causes.specs.ClassCauses.{HasClassCause}
 use Rattle.dj_class_text.specs.ClassText.{IsClassText}
 use Rattle.dj_class_text.specs.Formed.{IsFromFile}
 use Rattle.dj_class_text.proofs.FormedLemmas.{own_qualified, unit_formed}
+use Rattle.dj_class_text.proofs.ApartLemmas.{BodiesLead, unit_apart}
 use Rattle.dj_cli.specs.Output.{PrintsClass, file_line}
 use Rattle.dj_cli.specs.Methods.{AreJudged, HaveLines}
 use Rattle.dj_cli.proofs.MethodsLemmas.{counted}
+use Rattle.dj_cli.proofs.ApartLemmas.{bodies_lead}
 
 module _ (world : WorldOf) (class : ClassOf) (none : (cause : ClassCause) → ¬ HasClassCause world class cause) where
   -- the class's name is of characters below 128
@@ -37,6 +39,7 @@ module _ (world : WorldOf) (class : ClassOf) (none : (cause : ClassCause) → ¬
       unit = unit;
       class_text = subst (λ these. IsClassText world class these unit) judged.bodies_are text;
       well_formed = well_formed;
+      apart = unit_apart world class bodies unit (subst (BodiesLead class.methods 0 class.methods) (sym judged.bodies_are) (bodies_lead world class [] class.methods judged.verdicts refl judged.judged)) text;
       one_reading = λ other formed same. units_have_one_text other unit formed well_formed same;
       text_is = refl;
       lines_are = rw (have.lines_are, judged.lines_are) refl;

@@ -27,6 +27,7 @@ use Rattle.dj_causes.specs.BareCauses.{HasBareCause, IsBareCause}
 use Rattle.dj_causes.specs.ClassCauses.{HasClassCause, IsClassCause}
 use Rattle.dj_causes.specs.FieldCauses.{IsFieldCause}
 use Rattle.dj_class_text.specs.ClassText.{IsClassText}
+use Rattle.dj_class_text.specs.Apart.{IsApart}
 use Rattle.dj_report.specs.Report.{line_text}
 use Rattle.dj_report.specs.Report as report
 use Rattle.dj_world.specs.declared.fault.ClashKind.{ClashKind}
@@ -57,7 +58,7 @@ pub record IsVerified (world : WorldOf) (code : Code) : Type 0 where
   pub frames : List Frame
   pub table : IsFrameTable (Laxly world.headers) world.headers code frames
 
--- a straight method of a class whose code is verified in the world, and its body, which shows the same as its code there, at every bound, whatever classes may run besides, for all arguments that fit and all answers;
+-- a straight method of a class whose code is verified in the world, and its body, which shows the same as its code at every bound, for all arguments that fit and all answers, on each machine that has the classes of the world as it has them, those of the table of core classes too that no file has, whatever others it loads beside them;
 -- and the body is typed, where the world has the class and each above it, and the text of the class can say its name
 pub record PrintsMethod (world : WorldOf) (class : ClassOf) (before : List MethodOf) (method : MethodOf) (body : Body) : Type 0 where
   pub exp : Exp
@@ -184,7 +185,7 @@ field_lines class (field ∷ fields) (cause ∷ causes) = field_line class field
 abbrev pub file_line : List ℕ → List ℕ
 file_line class = codes "// " ++ class ++ codes ".java" ++ 10 ∷ []
 
--- a class is printed that no cause refuses: with exactly its fields that have no cause, its methods without code that have none, and its straight methods that are verified. Its unit is well formed, no other well formed unit has its text, and each other field has its line, and behind them each other method
+-- a class is printed that no cause refuses: with exactly its fields that have no cause, its methods without code that have none, and its straight methods that are verified. Its unit is well formed, no two of its members clash, no other well formed unit has its text, and each other field has its line, and behind them each other method
 pub record PrintsClass (world : WorldOf) (class : ClassOf) (piece : Piece) : Type 0 where
   pub none : (cause : ClassCause) → ¬ HasClassCause world class cause
   pub causes : List (Option FieldCause)
@@ -194,6 +195,7 @@ pub record PrintsClass (world : WorldOf) (class : ClassOf) (piece : Piece) : Typ
   pub unit : CompilationUnit
   pub class_text : IsClassText world class (bodies_of verdicts) unit
   pub well_formed : IsWellFormed unit
+  pub apart : IsApart unit
   pub one_reading : (other : CompilationUnit) → IsWellFormed other → unit_text other ≡ unit_text unit → other ≡ unit
   pub text_is : piece.text ≡ file_line class.this_class ++ unit_text unit
   pub lines_are : piece.lines ≡ field_lines class class.fields causes ++ method_lines class class.methods verdicts

@@ -8,7 +8,7 @@ use Rattle.dj_names.specs.Sayable.{IsSayable}
 use Rattle.dj_kinds.specs.Access.{package_of}
 use Rattle.dj_sayable.specs.declared.scope.Scope.{Scope}
 use Rattle.dj_sayable.specs.Above.{IsAtOrAbove}
-use Rattle.dj_sayable.specs.Saying.{HasPackage, DeclaresField, HasFieldInScope, IsUnobscured, IsTakenForPackage, CanBeSaid, first_segment}
+use Rattle.dj_sayable.specs.Saying.{HasPackage, DeclaresField, HasFieldInScope, HasClassInFront, IsUnobscured, IsTakenForPackage, CanBeSaid, first_segment}
 use Rattle.dj_sayable.specs.Scopes.{IsScope}
 use Rattle.dj_sayable.specs.Gathering.{Gains}
 
@@ -43,10 +43,16 @@ scope_fields headers members class above fields are gains field = (
     only x (suc k, within, is) = absurd (omega arith)
 
 module _ (headers : List Header) (members : List ClassMembers) (class name : Name) (scope : Scope) (is_scope : IsScope headers members class scope) where
-  pub unobscured_by : (among : Bool) (first : Name) → IsSayable name → first ≡ first_segment name → IsTrue among ↔ Contains scope.fields first → IsTrue (not among) ↔ IsUnobscured headers members class name
-  unobscured_by among first sayable is found = (
-    λ yes. record { sayable = sayable; no_field = λ in_scope. (not_true among).0 yes (found.1 (subst (Contains scope.fields) (sym is) ((is_scope.fields (first_segment name)).1 in_scope))) },
-    λ free. (not_true among).1 (λ has. free.no_field ((is_scope.fields (first_segment name)).0 (subst (Contains scope.fields) is (found.0 has)))),
+  pub no_field_by : (among : Bool) (first : Name) → first ≡ first_segment name → IsTrue among ↔ Contains scope.fields first → IsTrue (not among) ↔ ¬ HasFieldInScope headers members class (first_segment name)
+  no_field_by among first is found = (
+    λ yes in_scope. (not_true among).0 yes (found.1 (subst (Contains scope.fields) (sym is) ((is_scope.fields (first_segment name)).1 in_scope))),
+    λ free. (not_true among).1 (λ has. free ((is_scope.fields (first_segment name)).0 (subst (Contains scope.fields) is (found.0 has)))),
+  )
+
+  pub unobscured_by : (hidden : Bool) → IsSayable name → ¬ HasFieldInScope headers members class (first_segment name) → IsTrue hidden ↔ HasClassInFront headers name → IsTrue (not hidden) ↔ IsUnobscured headers members class name
+  unobscured_by hidden sayable free is = (
+    λ yes. record { sayable = sayable; no_field = free; no_class = λ has. (not_true hidden).0 yes (is.1 has) },
+    λ all. (not_true hidden).1 (λ has. all.no_class (is.0 has)),
   )
 
   pub said_packaged : (r : Bool) → IsUnobscured headers members class name → HasPackage name → IsTrue r ↔ IsTakenForPackage headers class name → IsTrue r ↔ CanBeSaid headers members class name

@@ -1,5 +1,5 @@
 -- Which names of classes the text of a class can say (JLS 6.3, 6.4.2, 6.5.2).
-use Rattle.std.specs.Prelude.{ℕ, ◌==◌, List, ◌++◌, Contains, codes}
+use Rattle.std.specs.Prelude.{◌≡◌, ℕ, ◌==◌, List, ◌∷◌, ◌++◌, Contains, codes}
 use Rattle.std.specs.List.{before_first}
 use Rattle.dj_names.specs.declared.header.Header.{Header}
 use Rattle.dj_names.specs.declared.members.ClassMembers.{ClassMembers}
@@ -30,10 +30,20 @@ pub record HasFieldInScope (headers : List Header) (members : List ClassMembers)
   pub above : Implements headers class owner
   pub declares : DeclaresField headers members field owner
 
--- each segment is an identifier, and the first isn't taken for a printed variable or for a field in scope (JLS 6.4.2)
+-- a front of a name, of two segments or more but not of all, is the name of a class: what stands behind it would be a member of that class (JLS 6.5.2,
+-- 6.5.4.2), and no package has that name (JLS 7.1)
+pub record HasClassInFront (headers : List Header) (name : Name) : Type 0 where
+  pub front : Name
+  pub rest : List ℕ
+  pub parts : name ≡ front ++ 47 ∷ rest
+  pub packaged : HasPackage front
+  pub there : Contains (names headers) front
+
+-- each segment is an identifier, the first isn't taken for a printed variable or for a field in scope, and no package in front for a class (JLS 6.4.2)
 pub record IsUnobscured (headers : List Header) (members : List ClassMembers) (class name : Name) : Type 0 where
   pub sayable : IsSayable name
   pub no_field : ¬ HasFieldInScope headers members class (first_segment name)
+  pub no_class : ¬ HasClassInFront headers name
 
 -- the first segment isn't taken for a class: neither for one in the package of this class nor for one in java/lang (JLS 6.3, 6.5.2, 7.3)
 pub record IsTakenForPackage (headers : List Header) (class name : Name) : Type 0 where

@@ -5,12 +5,12 @@ ghost use Rattle.dj_names.specs.declared.header.Header.{Header};
 ghost use Rattle.dj_names.specs.declared.members.ClassMembers.{ClassMembers};
 ghost use Rattle.dj_names.specs.Headers.{Name, names};
 ghost use Rattle.dj_members.specs.Tables.{field_names};
-ghost use Rattle.dj_sayable.specs.Saying.{DeclaresField, HasFieldInScope, IsUnobscured, IsTakenForPackage, CanBeSaid};
+ghost use Rattle.dj_sayable.specs.Saying.{HasPackage, DeclaresField, HasFieldInScope, HasClassInFront, IsUnobscured, IsTakenForPackage, CanBeSaid, first_segment};
 ghost use Rattle.dj_sayable.specs.Scopes.{IsScope};
 ghost use Rattle.dj_sayable.specs.Gathering.{Gains};
 
 use crate::above::all_above;
-use crate::segments::{first_segment, has_package, package_of};
+use crate::segments::{SLASH, first_segment, has_package, package_of};
 use dj_headers::Headers;
 use dj_members::NameTable;
 use dj_names::{ClassName, Field, Items, Members, Units, is_sayable};
@@ -91,6 +91,34 @@ fn is_known(headers: &Headers, class: &ClassName) -> bool
     headers.place(class).is_some()
 }
 
+/// Whether a slash stands behind the name of a class in a package.
+fn is_behind_class(
+    alloc: Global,
+    headers: &Headers,
+    front: &[u16],
+    unit: u16,
+) -> Result<bool, AllocError>
+    ensures behind { IfOk result (λ is. IsTrue is ↔ ((unit ≡ 47) × HasPackage front.now × Contains (names headers.now) front.now)) }
+{
+    if unit != SLASH || !has_package(front) {
+        return Ok(false);
+    }
+    let class = ClassName::new(Units::from_slice(alloc, front)?);
+    Ok(is_known(headers, &class))
+}
+
+/// Whether a front of a name, of two segments or more but not of all, is the name of a class.
+fn has_class_in_front(alloc: Global, headers: &Headers, name: &[u16]) -> Result<bool, AllocError>
+    ensures front { IfOk result (λ has. IsTrue has ↔ HasClassInFront headers.now name.now) }
+{
+    for (at, unit) in name.iter().enumerate() {
+        if is_behind_class(alloc, headers, &name[..at], *unit)? {
+            return Ok(true);
+        }
+    }
+    Ok(false)
+}
+
 /// Whether neither of two classes has a header.
 fn are_unknown(headers: &Headers, first: &ClassName, second: &ClassName) -> bool
     ensures unknown { IsTrue result ↔ (¬ Contains (names headers.now) first.now × ¬ Contains (names headers.now) second.now) }
@@ -154,15 +182,32 @@ impl Scope {
         })
     }
 
-    /// Whether each segment of a name is an identifier and the first is taken for no variable and no field.
-    pub fn is_unobscured(&self, alloc: Global, name: &ClassName) -> Result<bool, AllocError>
-        ensures unobscured { IfOk result (λ yes. (headers : List Header) (members : List ClassMembers) (class : Name) → IsScope headers members class self.now → IsTrue yes ↔ IsUnobscured headers members class name.now) }
+    /// Whether the first segment of a name is taken for no field.
+    fn is_no_field(&self, alloc: Global, name: &ClassName) -> Result<bool, AllocError>
+        ensures free { IfOk result (λ free. (headers : List Header) (members : List ClassMembers) (class : Name) → IsScope headers members class self.now → IsTrue free ↔ ¬ HasFieldInScope headers members class (first_segment name.now)) }
+    {
+        let first = Units::from_slice(alloc, first_segment(name.as_slice()))?;
+        Ok(!is_among(&self.fields, &first))
+    }
+
+    /// Whether each segment of a name is an identifier, the first is taken for no variable and no field,
+    /// and no package in front for a class.
+    pub fn is_unobscured(
+        &self,
+        alloc: Global,
+        headers: &Headers,
+        name: &ClassName,
+    ) -> Result<bool, AllocError>
+        ensures unobscured { IfOk result (λ yes. (members : List ClassMembers) (class : Name) → IsScope headers.now members class self.now → IsTrue yes ↔ IsUnobscured headers.now members class name.now) }
     {
         if !is_sayable(name.as_slice()) {
             return Ok(false);
         }
-        let first = Units::from_slice(alloc, first_segment(name.as_slice()))?;
-        Ok(!is_among(&self.fields, &first))
+        if !self.is_no_field(alloc, name)? {
+            return Ok(false);
+        }
+        let hidden = has_class_in_front(alloc, headers, name.as_slice())?;
+        Ok(!hidden)
     }
 
     /// Whether the text of the class can say a name.
@@ -174,7 +219,7 @@ impl Scope {
     ) -> Result<bool, AllocError>
         ensures said { IfOk result (λ said. (members : List ClassMembers) (class : Name) → IsScope headers.now members class self.now → IsTrue said ↔ CanBeSaid headers.now members class name.now) }
     {
-        if !self.is_unobscured(alloc, name)? {
+        if !self.is_unobscured(alloc, headers, name)? {
             return Ok(false);
         }
         if has_package(name.as_slice()) {

@@ -4,7 +4,8 @@ ghost use Rattle.std.specs.Prelude.{◌≡◌, ◌↔◌, ◌==◌, ◌++◌, �
 ghost use Rattle.dj_kinds.specs.Access.{package_of};
 ghost use Rattle.dj_sayable.specs.Saying.{HasPackage, first_segment};
 
-const SLASH: u16 = 0x2f;
+/// What stands between segments.
+pub const SLASH: u16 = 0x2f;
 
 /// Whether a class is in a package.
 pub fn has_package(name: &[u16]) -> bool

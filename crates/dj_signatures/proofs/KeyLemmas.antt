@@ -3,7 +3,7 @@ use Rattle.std.proofs.Common.{◌≡◌, ◌↔◌, ℕ, List, [], ◌∷◌, �
 use Rattle.std.proofs.lemmas.Option.{same_Some}
 use Rattle.dj_names.specs.Headers.{Name}
 use Rattle.dj_class.specs.Described.{MethodOf}
-use Rattle.dj_headers.specs.Table.{Places, place_of, Extends, IsIndex}
+use Rattle.dj_signatures.specs.Numbers.{Numbers, number_of, Extends, AreNumbers}
 use Rattle.dj_signatures.specs.declared.keys.Key.{Key}
 use Rattle.dj_signatures.specs.Signatures.{IsTwin, IsAlike}
 use Rattle.std.specs.List.{flat_map}
@@ -14,7 +14,7 @@ use Rattle.dj_members.proofs.ChainLemmas.{get-cases}
 use Rattle.dj_signatures.proofs.SpelledLemmas.{same_parameters, same_descriptor}
 
 -- a key is one still when there are more numbers
-pub key_kept : (old new : Places) (method : MethodOf) (key : Key) → Extends old new → IsKey old method key → IsKey new method key
+pub key_kept : (old new : Numbers) (method : MethodOf) (key : Key) → Extends old new → IsKey old method key → IsKey new method key
 key_kept old new method key more is = record {
   name = more method.name key.name is.name;
   parameters = more (spelled_parameters method.descriptor) key.parameters is.parameters;
@@ -23,7 +23,7 @@ key_kept old new method key more is = record {
 }
 
 -- each key is its method's, with one more
-pub keys_more : (methods : List MethodOf) (keys : List Key) (at : ℕ) (old new : Places) (method : MethodOf) (key : Key) → length keys ≡ at → slice_get methods at ≡ Some method → Extends old new → IsKey new method key
+pub keys_more : (methods : List MethodOf) (keys : List Key) (at : ℕ) (old new : Numbers) (method : MethodOf) (key : Key) → length keys ≡ at → slice_get methods at ≡ Some method → Extends old new → IsKey new method key
     → ((k : ℕ) (m : MethodOf) (x : Key) → slice_get methods k ≡ Some m → slice_get keys k ≡ Some x → IsKey old m x)
     → (k : ℕ) (m : MethodOf) (x : Key) → slice_get methods k ≡ Some m → slice_get (keys ++ key ∷ []) k ≡ Some x → IsKey new m x
 keys_more methods keys at old new method key size there more is each k m x m_is x_is = elim (get-cases keys key k x x_is) [
@@ -33,13 +33,13 @@ keys_more methods keys at old new method key size there more is each k m x m_is 
       subst (λ (o : MethodOf). IsKey new o x) same (subst (IsKey new method) last.1 is)
 ]
 
-module _ (numbers : Places) (index : IsIndex numbers) (method other : MethodOf) (key other_key : Key) (is : IsKey numbers method key) (other_is : IsKey numbers other other_key) where
+module _ (numbers : Numbers) (index : AreNumbers numbers) (method other : MethodOf) (key other_key : Key) (is : IsKey numbers method key) (other_is : IsKey numbers other other_key) where
   -- one number is of one text
-  one_text : (first second : Name) (at place : ℕ) → place_of numbers first ≡ Some at → place_of numbers second ≡ Some place → place ≡ at → second ≡ first
-  one_text first second at place one two same = index.one_name second first at (two ∙ ap Some same) one
+  one_text : (first second : Name) (at place : ℕ) → number_of numbers first ≡ Some at → number_of numbers second ≡ Some place → place ≡ at → second ≡ first
+  one_text first second at place one two same = index.one_text second first at (two ∙ ap Some same) one
 
-  one_number : (first second : Name) (at place : ℕ) → place_of numbers first ≡ Some at → place_of numbers second ≡ Some place → second ≡ first → place ≡ at
-  one_number first second at place one two same = same_Some place at (sym two ∙ ap (place_of numbers) same ∙ one)
+  one_number : (first second : Name) (at place : ℕ) → number_of numbers first ≡ Some at → number_of numbers second ≡ Some place → second ≡ first → place ≡ at
+  one_number first second at place one two same = same_Some place at (sym two ∙ ap (number_of numbers) same ∙ one)
 
   pub alike_keys : (alike_of other_key ≡ alike_of key) ↔ IsAlike method other
   alike_keys = (

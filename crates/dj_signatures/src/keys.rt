@@ -2,7 +2,7 @@
 
 ghost use Rattle.std.specs.Prelude.{◌≡◌, IfOk, map};
 ghost use Rattle.dj_class.specs.Views.{view_method};
-ghost use Rattle.dj_headers.specs.Table.{Extends, IsIndex};
+ghost use Rattle.dj_signatures.specs.Numbers.{Extends, AreNumbers};
 ghost use Rattle.dj_signatures.specs.Keys.{IsKey, AreKeys};
 
 use crate::numbers::{Numbers, learn};
@@ -27,7 +27,7 @@ pub struct Key {
 fn key_of(alloc: Global, numbers: &mut Numbers, method: &Method) -> Result<Key, AllocError>
     ensures key { IfOk result (IsKey numbers.new (view_method method.now)) }
     ensures extends { Extends numbers.old numbers.new }
-    ensures index { IsIndex numbers.old → IsIndex numbers.new }
+    ensures index { AreNumbers numbers.old → AreNumbers numbers.new }
 {
     let name = learn(numbers, method.name.copy(alloc)?)?;
     let parameters = learn(numbers, spelled_parameters(alloc, &method.descriptor)?)?;

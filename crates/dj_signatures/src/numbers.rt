@@ -1,7 +1,7 @@
 //! A number for each name and each spelled descriptor.
 
 ghost use Rattle.std.specs.Prelude.{◌≡◌, Some, IfOk};
-ghost use Rattle.dj_headers.specs.Table.{place_of, Extends, IsIndex};
+ghost use Rattle.dj_signatures.specs.Numbers.{number_of, Extends, AreNumbers};
 
 use dj_names::Units;
 use std::alloc::AllocError;
@@ -12,16 +12,16 @@ pub type Numbers = BTreeMap<Units, usize>;
 
 /// The number of a text, if it has one.
 fn number_of(numbers: &Numbers, text: &Units) -> Option<usize>
-    ensures place { result ≡ place_of numbers.now text.now }
+    ensures place { result ≡ number_of numbers.now text.now }
 {
     numbers.get(text).copied()
 }
 
 /// The number of a text, which gets the next one where it has none.
 pub fn learn(numbers: &mut Numbers, text: Units) -> Result<usize, AllocError>
-    ensures place { IfOk result (λ at. place_of numbers.new text ≡ Some at) }
+    ensures place { IfOk result (λ at. number_of numbers.new text ≡ Some at) }
     ensures extends { Extends numbers.old numbers.new }
-    ensures index { IsIndex numbers.old → IsIndex numbers.new }
+    ensures index { AreNumbers numbers.old → AreNumbers numbers.new }
 {
     match number_of(numbers, &text) {
         Some(at) => Ok(at),

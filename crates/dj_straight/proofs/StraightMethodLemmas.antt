@@ -53,7 +53,7 @@ module _ (class : ClassOf) (before : List MethodOf) (method : MethodOf) (code : 
 
   pub not_plain_head : ¬ HasPlainHead class method → IsNotYet class before method 0
   not_plain_head other = no_candidate spelled (λ parameters candidate.
-      other (record { name = candidate.name; static = candidate.static; public = candidate.public; thrown = candidate.thrown; answers = subst AnswersInt (sym candidate.descriptor) refl }))
+      other (record { name = candidate.name; static = candidate.static; public = candidate.public; no_bridge = candidate.no_bridge; thrown = candidate.thrown; answers = subst AnswersInt (sym candidate.descriptor) refl }))
 
 -- ---- what is found of code
 
@@ -73,6 +73,7 @@ module _ (class : ClassOf) (method : MethodOf) (parameters : ℕ) (code : Code) 
     name = head.name;
     static = head.static;
     public = head.public;
+    no_bridge = head.no_bridge;
     thrown = head.thrown;
     first = rw ints first;
     descriptor = ints_to_int method.descriptor (replicate parameters Int) ints head.answers;

@@ -1,5 +1,5 @@
 -- What is found of a method, part by part.
-use Rattle.std.specs.Prelude.{◌≡◌, ◌⊎◌, ℕ, IsTrue, List, [], Option, Some, None, ⊤}
+use Rattle.std.specs.Prelude.{◌≡◌, ◌⊎◌, ℕ, IsTrue, IsBitSet, List, [], Option, Some, None, ⊤}
 use Rattle.dj_names.specs.Identifiers.{IsIdentifier}
 use Rattle.dj_class.specs.Described.{ClassOf, MethodOf}
 use Rattle.dj_syntax.specs.Trees.{Exp, view_exp}
@@ -19,6 +19,7 @@ pub record HasPlainHead (class : ClassOf) (method : MethodOf) : Type 0 where
   pub name : IsIdentifier method.name
   pub static : IsTrue (is_static method.flags)
   pub public : IsTrue (is_interface class.flags) → IsTrue (is_public method.flags)
+  pub no_bridge : ¬ IsBitSet method.flags 6
   pub thrown : method.thrown ≡ []
   pub answers : AnswersInt method.descriptor
 

@@ -1,5 +1,5 @@
 -- Which methods of a class are straight, where each other one breaks, and the body that a straight one is printed with.
-use Rattle.std.specs.Prelude.{◌≡◌, ℕ, ◌≤◌, ◌==◌, Bool, false, not, IsTrue, List, [], Some, None, replicate, bit_and}
+use Rattle.std.specs.Prelude.{◌≡◌, ℕ, ◌≤◌, ◌==◌, Bool, false, not, IsTrue, IsBitSet, List, [], Some, None, replicate, bit_and}
 use Rattle.std.specs.List.{Any}
 use Rattle.dj_names.specs.Types.{JType, Int, Method, parameters_of}
 use Rattle.dj_names.specs.Identifiers.{IsIdentifier}
@@ -32,12 +32,14 @@ abbrev pub is_public : ℕ → Bool
 is_public flags = not (bit_and flags 0x0001 == 0)
 
 -- What a method needs before its instructions are looked at, those before it in the file given. Java can say its
--- name, and none before it has its name and parameter types; it is static, and public in an interface (JLS 9.4);
--- it takes so many ints and answers an int.
+-- name, and none before it has its name and parameter types; it is static, public in an interface (JLS 9.4), and no
+-- bridge, which would stand beside the method that it stands for (ACC_BRIDGE, 0x0040; JVMS 4.6); it takes so many
+-- ints and answers an int.
 pub record IsCandidate (class : ClassOf) (before : List MethodOf) (method : MethodOf) (parameters : ℕ) (code : Code) : Type 0 where
   pub name : IsIdentifier method.name
   pub static : IsTrue (is_static method.flags)
   pub public : IsTrue (is_interface class.flags) → IsTrue (is_public method.flags)
+  pub no_bridge : ¬ IsBitSet method.flags 6
   pub thrown : method.thrown ≡ []
   pub first : ¬ IsDeclared before method.name (parameters_of method.descriptor)
   pub descriptor : method.descriptor ≡ Method (replicate parameters Int) (Some Int)

@@ -1,6 +1,6 @@
 //! Whether a method is straight, and the body of one that is.
 
-ghost use Rattle.std.specs.Prelude.{◌≡◌, ◌<◌, ◌^◌, List, ◌∷◌, [], ◌++◌, replicate, Some, IfOk, OnOk, IsTrue, ◌↔◌, length};
+ghost use Rattle.std.specs.Prelude.{◌≡◌, ◌<◌, ◌^◌, List, ◌∷◌, [], ◌++◌, replicate, Some, IfOk, OnOk, IsTrue, IsBitSet, ◌↔◌, length};
 ghost use Rattle.dj_names.specs.Types as types;
 ghost use Rattle.dj_names.specs.Types.{parameters_of, view_descriptor};
 ghost use Rattle.dj_syntax.specs.Trees as trees;
@@ -29,6 +29,8 @@ const PUBLIC: u16 = 0x0001;
 
 const STATIC: u16 = 0x0008;
 
+const BRIDGE: u16 = 0x0040;
+
 /// What is found of a method.
 #[derive(Drop)]
 pub enum Judged {
@@ -52,6 +54,13 @@ fn is_public(flags: u16) -> bool
     flags & PUBLIC != 0
 }
 
+/// Whether method flags have ACC_BRIDGE.
+fn is_bridge(flags: u16) -> bool
+    ensures bridge_flag { IsTrue result ↔ IsBitSet flags 6 }
+{
+    flags & BRIDGE != 0
+}
+
 /// Whether the head of a method of a class is that of a straight one, its parameters aside.
 fn has_plain_head(class: &ClassFile, method: &Method) -> bool
     ensures plain { IsTrue result ↔ HasPlainHead (view_class class.now) (view_method method.now) }
@@ -59,6 +68,7 @@ fn has_plain_head(class: &ClassFile, method: &Method) -> bool
     is_identifier(&method.name)
         && is_static(method.flags)
         && (!is_interface(class.flags) || is_public(method.flags))
+        && !is_bridge(method.flags)
         && method.thrown.is_empty()
         && answers_int(&method.descriptor)
 }

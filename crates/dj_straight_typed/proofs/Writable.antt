@@ -1,5 +1,5 @@
 -- Tests of names that are right: which names the text of a class can say is decided.
-use Rattle.std.proofs.Common.{◌≡◌, ◌⊎◌, ℕ, zero, suc, ◌==◌, Bool, true, false, not, ◌&&◌, ◌||◌, Decides, List, [], ◌∷◌, ◌++◌, Contains, Some, refl, sym, ap, subst, ◌∙◌, inl, inr}
+use Rattle.std.proofs.Common.{◌≡◌, ◌⊎◌, ℕ, zero, suc, ◌==◌, Bool, true, false, not, ◌&&◌, ◌||◌, Decides, List, [], ◌∷◌, ◌++◌, length, drop, get_or, Contains, Some, refl, sym, ap, subst, ◌∙◌, inl, inr, arith}
 use Rattle.std.specs.Prelude.{codes, slice_get}
 use Rattle.std.specs.List.{list_any, list_all}
 use Rattle.std.proofs.lemmas.Bool.{false≢true}
@@ -16,7 +16,7 @@ use Rattle.dj_members.specs.Tables.{field_names}
 use Rattle.dj_kinds.specs.Access.{package_of}
 use Rattle.dj_values.specs.Deciding.{is_name, implements}
 use Rattle.dj_values.proofs.Deciding.{Decides-implements}
-use Rattle.dj_sayable.specs.Saying.{first_segment, HasFieldInScope, IsUnobscured, IsTakenForPackage, CanBeSaid}
+use Rattle.dj_sayable.specs.Saying.{first_segment, HasFieldInScope, HasClassInFront, IsUnobscured, IsTakenForPackage, CanBeSaid}
 use Rattle.dj_typing.specs.Sites.{has_header}
 use Rattle.dj_typing.specs.Words.{is_digit, is_identifier}
 use Rattle.dj_typing.proofs.WordLemmas.{Decides-among, Decides-digit, Decides-identifier}
@@ -117,6 +117,49 @@ named_there headers name has = (Decides-among (names headers) name).0 (sym (same
     same [] = refl
     same (header ∷ rest) = ap (λ other. is_name header.name name || other) (same rest)
 
+-- ---- classes in front
+
+-- a name goes on behind a front with a slash
+abbrev is_in_front : Name → Name → Bool
+is_in_front [] [] = false
+is_in_front [] (unit ∷ rest) = unit == 47
+is_in_front (first ∷ front) [] = false
+is_in_front (first ∷ front) (unit ∷ rest) = (unit == first) && is_in_front front rest
+
+record IsInFront (front name : Name) : Type 0 where
+  rest : List ℕ
+  parts : name ≡ front ++ 47 ∷ rest
+
+Decides-in_front : (front name : Name) → Decides (is_in_front front name) (IsInFront front name)
+Decides-in_front [] [] = (λ is. absurd (false≢true is), λ h. absurd (let e = ap length h.parts in omega (arith, e)))
+Decides-in_front [] (unit ∷ rest) =
+    Decides-like (unit == 47) (λ is. record { rest = rest; parts = ap (λ first. first ∷ rest) is }) (λ h. ap (λ (units : List ℕ). get_or units 0 0) h.parts) (Decides-eqb unit 47)
+Decides-in_front (first ∷ front) [] = (λ is. absurd (false≢true is), λ h. absurd (let e = ap length h.parts in omega (arith, e)))
+Decides-in_front (first ∷ front) (unit ∷ rest) =
+    Decides-like (is_in_front (first ∷ front) (unit ∷ rest)) (λ h. record { rest = h.1.rest; parts = λ i. h.0 i ∷ h.1.parts i })
+    (λ h. (ap (λ (units : List ℕ). get_or units 0 0) h.parts, record { rest = h.rest; parts = ap (drop 1) h.parts }))
+    (Decides-and _ _ (Decides-eqb unit first) (Decides-in_front front rest))
+
+-- a class in a package is
+abbrev has_class_in_front : List Header → Name → Bool
+has_class_in_front [] name = false
+has_class_in_front (header ∷ headers) name = (has_unit 47 header.name && is_in_front header.name name) || has_class_in_front headers name
+
+Decides-class_in_front : (headers : List Header) (name : Name) → Decides (has_class_in_front headers name) (HasClassInFront headers name)
+Decides-class_in_front [] name = (λ is. absurd (false≢true is), λ h. absurd (let within = h.there.1 in omega arith))
+Decides-class_in_front (header ∷ headers) name =
+    Decides-like (has_class_in_front (header ∷ headers) name) to (λ h. from h.front h.rest h.parts h.packaged h.there)
+    (Decides-or _ _ (Decides-and _ _ (Decides-unit 47 header.name) (Decides-in_front header.name name)) (Decides-class_in_front headers name))
+  where
+    to : (Contains header.name 47 × IsInFront header.name name) ⊎ HasClassInFront headers name → HasClassInFront (header ∷ headers) name
+    to (inl here) = record { front = header.name; rest = here.1.rest; parts = here.1.parts; packaged = here.0; there = (0, omega arith, refl) }
+    to (inr later) = record { front = later.front; rest = later.rest; parts = later.parts; packaged = later.packaged; there = (suc later.there.0, (let within = later.there.1 in omega (arith, within)), later.there.2) }
+
+    from : (front rest : Name) → name ≡ front ++ 47 ∷ rest → Contains front 47 → Contains (names (header ∷ headers)) front → (Contains header.name 47 × IsInFront header.name name) ⊎ HasClassInFront headers name
+    from front rest parts packaged (zero, within, is) =
+        inl (subst (λ (n : Name). Contains n 47) (sym is) packaged, record { rest = rest; parts = parts ∙ ap (λ (n : Name). n ++ 47 ∷ rest) (sym is) })
+    from front rest parts packaged (suc at, within, is) = inr (record { front = front; rest = rest; parts = parts; packaged = packaged; there = (at, omega (arith, within), is) })
+
 -- where one holds the other does
 Decides-implies : {P Q : Type 0} (first second : Bool) → Decides first P → Decides second Q → Decides (not first || second) (P → Q)
 Decides-implies true second d k = (λ is p. k.0 is, λ f. k.1 (f (d.0 refl)))
@@ -136,12 +179,13 @@ module _ (headers : List Header) (members : List ClassMembers) (class : Name) wh
       (Decides-and _ _ (Decides-not _ (Decides-among (names headers) (package_of class ++ first_segment name))) (Decides-not _ (Decides-among (names headers) (codes "java/lang/" ++ first_segment name))))
 
   abbrev is_unobscured : Name → Bool
-  is_unobscured name = is_sayable name && not (declares headers class (first_segment name) headers members)
+  is_unobscured name = is_sayable name && (not (declares headers class (first_segment name) headers members) && not (has_class_in_front headers name))
 
   Decides-unobscured : (name : Name) → Decides (is_unobscured name) (IsUnobscured headers members class name)
   Decides-unobscured name =
-      Decides-like (is_unobscured name) (λ h. record { sayable = h.0; no_field = h.1 }) (λ h. (h.sayable, h.no_field))
-      (Decides-and _ _ (Decides-sayable name) (Decides-not _ (Decides-in_scope headers members class (first_segment name))))
+      Decides-like (is_unobscured name) (λ h. record { sayable = h.0; no_field = h.1.0; no_class = h.1.1 }) (λ h. (h.sayable, (h.no_field, h.no_class)))
+      (Decides-and _ _ (Decides-sayable name)
+      (Decides-and _ _ (Decides-not _ (Decides-in_scope headers members class (first_segment name))) (Decides-not _ (Decides-class_in_front headers name))))
 
   -- the text of the class can say a name
   abbrev says : Name → Bool

@@ -1,5 +1,5 @@
 use Rattle.std.proofs.Common.{refl}
-use Rattle.dj_headers.proofs.PlaceLemmas.{learned}
+use Rattle.dj_signatures.proofs.NumberLemmas.{learned}
 use Rattle.dj_signatures.proofs.numbers.learn.Goals as goal
 
 pub returns-in_ok-insert-in-None-clause-extends : goal.returns-in_ok-insert-in-None-clause-extends
