@@ -1,12 +1,15 @@
 -- Orders of search and packages at worked examples, by computation: a wrong definition is refused here.
-use Rattle.std.proofs.Common.{◌≡◌, ℕ, List, [], ◌∷◌, Option, Some, None, bytes_eq, inl, inr, refl, arith}
+use Rattle.std.proofs.Common.{◌≡◌, ℕ, false, List, [], ◌∷◌, Option, Some, None, bytes_eq, inl, inr, refl, sym, ap₂, ◌∙◌, arith}
 use Rattle.std.specs.Prelude.{codes}
-use Rattle.std.proofs.lemmas.Bool.{both_ways}
+use Rattle.std.proofs.lemmas.Bool.{both_ways, false≢true}
 use Rattle.std.proofs.lemmas.Slice.Eq.{bytes_eq-Decides}
 use Rattle.dj_names.specs.declared.header.Header.{Header}
+use Rattle.dj_names.specs.declared.members.MethodHead.{MethodHead}
 use Rattle.dj_names.specs.Headers.{Name}
+use Rattle.dj_names.specs.Types.{Int, Method, view_descriptor}
 use Rattle.dj_names.specs.Assignable.{object_name}
 use Rattle.dj_kinds.specs.Search.{classes_then_interfaces, method_order, field_order}
+use Rattle.dj_kinds.specs.Own.{is_false_constructor, IsSeen}
 use Rattle.dj_kinds.specs.Access.{package_of}
 use Rattle.dj_kinds.specs.Inherited.{IsInherited}
 
@@ -79,3 +82,15 @@ private_alone (inl same) = both_ways (bytes_eq (codes "q/S") (codes "q/P")) refl
 private_alone (inr (inl public)) = public refl
 private_alone (inr (inr (inl protected))) = protected.0 refl
 private_alone (inr (inr (inr kept))) = kept.0 (λ none. absurd cc)
+
+-- ---- constructors
+
+-- a method of a constructor's name that has a result is no constructor, and no search sees it
+with_a_result : (start class : Name) (method : MethodHead) → method.name ≡ codes "<init>" → view_descriptor method.descriptor ≡ Method [] (Some Int) → ¬ IsSeen family start class method
+with_a_result start class method named is seen = false≢true (sym seen.2 ∙ ap₂ is_false_constructor named is)
+
+without_one : is_false_constructor (codes "<init>") (Method (Int ∷ []) None) ≡ false
+without_one = refl
+
+another_name : is_false_constructor (codes "init") (Method [] (Some Int)) ≡ false
+another_name = refl

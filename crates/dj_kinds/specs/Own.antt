@@ -1,12 +1,13 @@
 -- Which members a class has itself (JVMS 4.5, 4.6).
-use Rattle.std.specs.Prelude.{◌≡◌, ◌≢◌, ◌⊎◌, ℕ, ◌<◌, true, false, List, Some, IsBitSet, slice_get}
+use Rattle.std.specs.Prelude.{◌≡◌, ◌≢◌, ◌⊎◌, ◌&&◌, ℕ, ◌<◌, Bool, true, false, List, Some, IsBitSet, is_some, slice_get}
 use Rattle.dj_names.specs.declared.header.Header.{Header}
 use Rattle.dj_names.specs.declared.members.Field.{Field}
 use Rattle.dj_names.specs.declared.members.MethodHead.{MethodHead}
 use Rattle.dj_names.specs.declared.members.ClassMembers.{ClassMembers}
 use Rattle.dj_names.specs.declared.members.Member.{Member}
 use Rattle.dj_names.specs.Headers.{Name, names, IsInterface}
-use Rattle.dj_names.specs.Types.{JType, Descriptor, view_type, view_descriptor, parameters_of}
+use Rattle.dj_names.specs.MethodNames.{is_constructor}
+use Rattle.dj_names.specs.Types.{JType, Descriptor, view_type, view_descriptor, parameters_of, result_of}
 
 -- the place of the first item of which this holds
 pub record IsFirst {A : Type 0} (Holds : A → Type 0) (items : List A) (at : ℕ) : Type 0 where
@@ -55,9 +56,14 @@ IsHiddenBelow headers start class method = (start ≢ class) × IsInterface head
 abbrev pub IsHiddenInObject : List Header → Name → Name → MethodHead → Type 0
 IsHiddenInObject headers start class method = IsInterface headers start × ¬ IsInterface headers class × (¬ IsBitSet method.flags 0 ⊎ IsBitSet method.flags 3)
 
+-- a method of a constructor's name that has a result is no constructor (JVMS 2.9, 4.4.2)
+abbrev pub is_false_constructor : Name → Descriptor → Bool
+is_false_constructor name descriptor = is_constructor name && is_some (result_of descriptor)
+
 -- a method of a class is seen by a search that starts at a class
 abbrev pub IsSeen : List Header → Name → Name → MethodHead → Type 0
-IsSeen headers start class method = ¬ IsHiddenBelow headers start class method × ¬ IsHiddenInObject headers start class method
+IsSeen headers start class method =
+    ¬ IsHiddenBelow headers start class method × ¬ IsHiddenInObject headers start class method × (is_false_constructor method.name (view_descriptor method.descriptor) ≡ false)
 
 -- the first of these methods that has the name and the descriptor and is seen
 abbrev pub IsFirstOf : Name → Descriptor → (MethodHead → Type 0) → List MethodHead → ℕ → Type 0

@@ -1,10 +1,19 @@
 //! Which methods of a class a search sees.
 
 ghost use Rattle.std.specs.Prelude.{◌≡◌, ◌↔◌, IsTrue};
-ghost use Rattle.dj_kinds.specs.Own.{IsHiddenBelow, IsHiddenInObject, IsSeen};
+ghost use Rattle.dj_names.specs.Types.{view_descriptor};
+ghost use Rattle.dj_kinds.specs.Own.{IsHiddenBelow, IsHiddenInObject, is_false_constructor, IsSeen};
 
+use crate::types::has_result;
 use dj_headers::Headers;
-use dj_names::{ClassName, MethodHead};
+use dj_names::{ClassName, MethodHead, is_constructor};
+
+/// Whether a method has the name of a constructor, and a result, which no constructor has.
+fn is_false_constructor(method: &MethodHead) -> bool
+    ensures false_constructor { result ≡ is_false_constructor method.now.name (view_descriptor method.now.descriptor) }
+{
+    is_constructor(&method.name) && has_result(&method.descriptor)
+}
 
 /// The class where a search starts, and one whose methods it looks at.
 #[derive(Clone, Copy)]
@@ -37,6 +46,6 @@ impl View<'_> {
     pub fn sees(self, method: &MethodHead) -> bool
         ensures seen { IsTrue result ↔ IsSeen self.entry.headers.now self.entry.start.now self.entry.class.now method.now }
     {
-        !self.hides_below(method) && !self.hides_in_object(method)
+        !self.hides_below(method) && !self.hides_in_object(method) && !is_false_constructor(method)
     }
 }

@@ -1,8 +1,8 @@
 //! Whether lists of types are the same, or go where others are wanted.
 
-ghost use Rattle.std.specs.Prelude.{◌≡◌, ◌↔◌, IsTrue, map};
+ghost use Rattle.std.specs.Prelude.{◌≡◌, ◌↔◌, IsTrue, is_some, map};
 ghost use Rattle.std.specs.Option.{option_map};
-ghost use Rattle.dj_names.specs.Types.{view_type, view_types, view_static, view_descriptor, parameters_of};
+ghost use Rattle.dj_names.specs.Types.{view_type, view_types, view_static, view_descriptor, parameters_of, result_of};
 ghost use Rattle.dj_kinds.specs.Choice.{AllAssignable, AllSubtypes};
 
 use dj_headers::{Headers, is_assignable, is_subtype};
@@ -63,6 +63,16 @@ pub fn parameters_of(descriptor: &Descriptor) -> &[JType]
     match descriptor {
         Descriptor::Field(_) => &[],
         Descriptor::Method { parameters, .. } => parameters.as_slice(),
+    }
+}
+
+/// Whether a method of this descriptor gives a result.
+pub fn has_result(descriptor: &Descriptor) -> bool
+    ensures result { result ≡ is_some (result_of (view_descriptor descriptor.now)) }
+{
+    match descriptor {
+        Descriptor::Field(_) => true,
+        Descriptor::Method { result, .. } => result.is_some(),
     }
 }
 

@@ -9,8 +9,8 @@ use Rattle.dj_frames.specs.Frames.{Frame, view_frame, view_frames}
 use Rattle.dj_code.specs.declared.method_code.Handler.{Handler}
 use Rattle.dj_code.specs.Targets.{targets_of}
 use Rattle.dj_starts.specs.Edges.{first_pc}
-use Rattle.dj_starts.specs.Starts.{TableAsks, BeginsBehind, CodeAsks}
-use Rattle.dj_starts.specs.Births.{IsGiven, IsBound}
+use Rattle.dj_starts.specs.Starts.{IsGiven, TableAsks, BeginsBehind, CodeAsks}
+use Rattle.dj_starts.specs.Births.{IsBound}
 use Rattle.dj_starts.specs.Marks.{MarksMore}
 use Rattle.dj_starts.proofs.Marking.{none_more, both_more}
 

@@ -14,7 +14,8 @@ use Rattle.dj_code.specs.Targets.{IsStart}
 use Rattle.dj_starts.specs.declared.calls.Met.{Met}
 use Rattle.dj_starts.specs.declared.calls.Met.TheVariants as met
 use Rattle.dj_starts.specs.declared.roles.Role.TheVariants as role
-use Rattle.dj_starts.specs.Births.{role_of, ConstructsFirst, Meets, IsOnlyCall, IsGiven, IsBound}
+use Rattle.dj_starts.specs.Births.{role_of, ConstructsFirst, Meets, IsOnlyCall, IsBound}
+use Rattle.dj_starts.specs.Starts.{IsGiven}
 use Rattle.dj_starts.specs.Marks.{IsMarked, IsRoom, MarksMore}
 use Rattle.dj_starts.specs.Walking.{IsFences, IsTable, Tells, behind_all, only_call, call_behind}
 use Rattle.dj_starts.proofs.Marking.{both_more}

@@ -7,6 +7,7 @@ use Rattle.dj_frames.specs.Frames.{Tag, Top, Int, Float, Double, Long, Null, Unb
 use Rattle.dj_stack_map.specs.StackMap.{IsNewAt}
 use Rattle.dj_code.specs.declared.method_code.Handler.{Handler}
 use Rattle.dj_code.specs.MethodCode.{Code, Typed}
+use Rattle.dj_starts.specs.Starts.{IsGiven}
 use Rattle.dj_starts.specs.declared.birth.Birth.{Birth}
 use Rattle.dj_starts.specs.declared.roles.Role.{Role}
 use Rattle.dj_starts.specs.declared.roles.Role.TheVariants as role
@@ -144,11 +145,6 @@ Between Asked start end before (at ∷ rest) =
     (start < at.0 → at.0 < end → Asked at.0 before (role_of at.1) (first_role rest)) × Between Asked start end (role_of at.1) rest
 
 -- ---- births
-
--- one of these frames is given at this pc
-abbrev pub IsGiven : List (ℕ × Frame) → ℕ → Type 0
-IsGiven [] pc = ⊥
-IsGiven (frame ∷ rest) pc = (pc ≡ frame.0) ⊎ IsGiven rest pc
 
 -- the range of one of these entries of the exception table begins or ends at this pc
 abbrev pub IsBound : List Handler → ℕ → Type 0

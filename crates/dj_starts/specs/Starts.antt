@@ -54,6 +54,11 @@ ChangesFirst instruction (frame ∷ frames) = IsChange instruction frame
 abbrev pub in_range : List Handler → ℕ → Bool
 in_range handlers pc = list_any (λ handler. covers handler pc) handlers
 
+-- one of these frames is given at this pc
+abbrev pub IsGiven : List (ℕ × Frame) → ℕ → Type 0
+IsGiven [] pc = ⊥
+IsGiven (frame ∷ rest) pc = (pc ≡ frame.0) ⊎ IsGiven rest pc
+
 -- the exception table has a range that starts or ends at this pc, or a handler there
 abbrev pub TableAsks : List Handler → ℕ → Type 0
 TableAsks [] pc = ⊥
@@ -81,6 +86,7 @@ CodeAsks handlers (at ∷ rest) frames pc =
 -- a block begins at this pc
 pub data BeginsBlock (typed : Typed) (pc : ℕ) : Type 0 where
   entry : pc ≡ 0 → BeginsBlock typed pc
+  given : IsGiven typed.code.frames pc → BeginsBlock typed pc
   table : TableAsks typed.code.handlers pc → BeginsBlock typed pc
   code : CodeAsks typed.code.handlers typed.code.instructions typed.frames pc → BeginsBlock typed pc
 

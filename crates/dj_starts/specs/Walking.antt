@@ -13,7 +13,8 @@ use Rattle.dj_starts.specs.declared.calls.Met.TheVariants as met
 use Rattle.dj_starts.specs.declared.roles.Role.{Role}
 use Rattle.dj_starts.specs.declared.roles.Role.TheVariants as role
 use Rattle.dj_starts.specs.declared.walk.Walk.{Walk}
-use Rattle.dj_starts.specs.Births.{role_of, ConstructsFirst, Meets, IsOnlyCall, IsAllowed, IsFree, Between, IsWritten, IsGiven, IsBound}
+use Rattle.dj_starts.specs.Births.{role_of, ConstructsFirst, Meets, IsOnlyCall, IsAllowed, IsFree, Between, IsWritten, IsBound}
+use Rattle.dj_starts.specs.Starts.{IsGiven}
 use Rattle.dj_starts.specs.Marks.{IsMarked, IsRoom, MarksMore}
 
 -- ---- constructor calls

@@ -3,11 +3,11 @@
 ghost use Rattle.std.specs.Prelude.{◌≡◌, ◌<◌, ◌↔◌, ℕ, IfOk, OnOk, IsTrue, map, drop};
 ghost use Rattle.std.specs.List.{AllPairs, Contains};
 ghost use Rattle.dj_instructions.specs.Instructions.{view_instruction, view_instructions, IsRising};
-ghost use Rattle.dj_frames.specs.Frames.{view_frame};
+ghost use Rattle.dj_frames.specs.Frames.{view_frame, view_frames};
 ghost use Rattle.dj_code.specs.MethodCode.{view_typed};
 ghost use Rattle.dj_starts.specs.Edges.{first_pc};
 ghost use Rattle.dj_starts.specs.Starts as spec;
-ghost use Rattle.dj_starts.specs.Starts.{TableAsks, EndsBlock, BeginsBehind, CodeAsks, IsBlockStart};
+ghost use Rattle.dj_starts.specs.Starts.{IsGiven, TableAsks, EndsBlock, BeginsBehind, CodeAsks, IsBlockStart};
 ghost use Rattle.dj_starts.specs.Marks.{IsMarked, MarksMore, IsBothMarked};
 
 use crate::control::control_of;
@@ -24,6 +24,15 @@ fn in_range(handlers: &[Handler], pc: u32) -> bool
     ensures range { result ≡ spec.in_range handlers.now pc }
 {
     handlers.iter().any(|handler| covers(handler, pc))
+}
+
+/// Marks the pcs at which frames are given.
+pub fn mark_given(frames: &[(u32, Frame)], begins: &mut Items<bool>)
+    ensures more { MarksMore begins.old begins.new (IsGiven (view_frames frames.now)) }
+{
+    for frame in frames {
+        mark(frame.0, begins);
+    }
 }
 
 /// Marks where ranges start and end, and where handlers are.
@@ -140,6 +149,7 @@ pub fn block_starts(alloc: Global, typed: &Typed) -> Result<Items<u32>, AllocErr
     let seen = reached(alloc, code)?;
     let mut begins = no_marks(alloc, instructions)?;
     mark(0, &mut begins);
+    mark_given(code.frames.as_slice(), &mut begins);
     mark_table(handlers, &mut begins);
     mark_code(
         alloc,

@@ -2,30 +2,21 @@
 
 ghost use Rattle.std.specs.Prelude.{◌↔◌, ℕ, [], map, IfOk};
 ghost use Rattle.dj_instructions.specs.Instructions.{view_instructions, IsRising};
-ghost use Rattle.dj_frames.specs.Frames.{view_frame, view_frames};
+ghost use Rattle.dj_frames.specs.Frames.{view_frame};
 ghost use Rattle.dj_stack_map.specs.StackMap.{IsNewAt};
 ghost use Rattle.dj_code.specs.MethodCode.{view_code, view_typed};
-ghost use Rattle.dj_starts.specs.Births.{IsWritten, IsGiven, IsBound};
+ghost use Rattle.dj_starts.specs.Births.{IsWritten, IsBound};
 ghost use Rattle.dj_starts.specs.Marks.{IsMarked, MarksMore};
 ghost use Rattle.dj_starts.specs.Walking.{IsTable, IsFences, IsWalked};
 
 use crate::calls::{Met, ended};
 use crate::marks::{is_marked, mark, no_marks};
 use crate::roles::{Role, first_role, role_of};
-use crate::starts::frames_from;
+use crate::starts::{frames_from, mark_given};
 use crate::walk::{Walk, step};
-use dj_code::{Code, Frame, Handler, Typed};
+use dj_code::{Code, Handler, Typed};
 use dj_names::Items;
 use std::alloc::{AllocError, Global};
-
-/// Marks the pcs at which frames are given.
-fn mark_given(frames: &[(u32, Frame)], marks: &mut Items<bool>)
-    ensures more { MarksMore marks.old marks.new (IsGiven (view_frames frames.now)) }
-{
-    for frame in frames {
-        mark(frame.0, marks);
-    }
-}
 
 /// Marks the pcs at which ranges begin and end.
 fn mark_bounds(handlers: &[Handler], marks: &mut Items<bool>)
