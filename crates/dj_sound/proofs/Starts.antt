@@ -14,56 +14,58 @@ use Rattle.dj_bytecode.specs.Machine.{Locals, first_locals}
 use Rattle.dj_bytecode.specs.Machine as machine
 use Rattle.dj_bytecode.specs.SameShows.{AreArgumentsOf}
 use Rattle.dj_verify.specs.Rules.{head_of, entry}
+use Rattle.dj_tags.specs.Goes.{Assignability}
+use Rattle.dj_typed_states.specs.Facts.{Facts, AreKept}
 use Rattle.dj_typed_states.specs.Held.{IsHeld, unknown, int, long, null, unborn_this, no_object, object, unborn, IsLocal, anything, known, AllAre, none, more, Describes}
-use Rattle.dj_typed_states.proofs.Holding.{value_held, reference_shaped}
+use Rattle.dj_typed_states.proofs.Holding.{value_held}
 use Rattle.dj_typed_states.proofs.Slots.{first_locals_are}
 
 -- a value and others, in their slots
-slots_known : {held : Tag} {value : Value} (tags : List Tag) (values : List Value) → (held ≡ tag.Top → ⊥) → IsHeld held value → AllAre IsLocal (flat_map slots_of tags) (machine.slots_of values) → AllAre IsLocal (flat_map slots_of (held ∷ tags)) (machine.slots_of (value ∷ values))
+slots_known : {facts : Facts} {held : Tag} {value : Value} (tags : List Tag) (values : List Value) → (held ≡ tag.Top → ⊥) → IsHeld facts held value → AllAre (IsLocal facts) (flat_map slots_of tags) (machine.slots_of values) → AllAre (IsLocal facts) (flat_map slots_of (held ∷ tags)) (machine.slots_of (value ∷ values))
 slots_known tags values known_tag unknown are = absurd (known_tag refl)
 slots_known tags values known_tag int are = more (known int) are
 slots_known tags values known_tag long are = more (known long) (more anything are)
 slots_known tags values known_tag null are = more (known null) are
 slots_known tags values known_tag (unborn_this is) are = more (known (unborn_this is)) are
 slots_known tags values known_tag no_object are = more (known no_object) are
-slots_known tags values known_tag (object is shape) are = more (known (object is shape)) are
+slots_known tags values known_tag (object is) are = more (known (object is)) are
 slots_known tags values known_tag (unborn is) are = more (known (unborn is)) are
 
 never_top : (type : JType) → tag_of type ≡ tag.Top → ⊥
 never_top Boolean is = cc
 never_top type is = cc
 
-module _ (headers : List Header) where
-  values_known : (types : List JType) (values : List Value) → AreValuesOf headers types values → AllAre IsLocal (flat_map slots_of (map tag_of types)) (machine.slots_of values)
+module _ {Goes : Assignability} {headers : List Header} {code : Code} {facts : Facts} (kept : AreKept Goes headers code facts) where
+  values_known : (types : List JType) (values : List Value) → AreValuesOf headers types values → AllAre (IsLocal facts) (flat_map slots_of (map tag_of types)) (machine.slots_of values)
   values_known [] [] are = none
   values_known [] (value ∷ values) are = absurd are
   values_known (type ∷ types) [] are = absurd are
-  values_known (type ∷ types) (value ∷ values) are = slots_known (map tag_of types) values (never_top type) (value_held headers type value are.0) (values_known types values are.1)
+  values_known (type ∷ types) (value ∷ values) are = slots_known (map tag_of types) values (never_top type) (value_held kept type value are.0) (values_known types values are.1)
 
   -- `this`, born or not
-  this_known : (class : Name) (unborn_yet : Bool) (this : Value) → IsThis headers class this → IsHeld (if unborn_yet then tag.UnbornThis else tag.Object (Class class)) this
-  this_known class unborn_yet (Int number) is = absurd is
-  this_known class unborn_yet (Long number) is = absurd is
-  this_known class unborn_yet Null is = absurd is
-  this_known class true (Ref reference) is = unborn_this (reference_shaped headers (Class class) reference is).0
-  this_known class false (Ref reference) is = let shape = reference_shaped headers (Class class) reference is in object shape.0 shape.1
+  this_known : (unborn_yet : Bool) (this : Value) → IsThis headers code.class this → IsHeld facts (if unborn_yet then tag.UnbornThis else tag.Object (Class code.class)) this
+  this_known unborn_yet (Int number) is = absurd is
+  this_known unborn_yet (Long number) is = absurd is
+  this_known unborn_yet Null is = absurd is
+  this_known true (Ref reference) is = unborn_this (kept.this_fits reference is)
+  this_known false (Ref reference) is = object (kept.fits (Class code.class) reference is)
 
   this_never_top : (class : Name) (unborn_yet : Bool) → (if unborn_yet then tag.UnbornThis else tag.Object (Class class)) ≡ tag.Top → ⊥
   this_never_top class true is = cc
   this_never_top class false is = cc
 
-  arguments_known : (class : Name) (unborn_yet no_flag : Bool) (types : List JType) (arguments : List Value) → AreArguments headers class (not no_flag) types arguments
-      → AllAre IsLocal (flat_map slots_of ((if no_flag then (if unborn_yet then tag.UnbornThis else tag.Object (Class class)) ∷ [] else []) ++ map tag_of types)) (machine.slots_of arguments)
-  arguments_known class unborn_yet false types arguments are = values_known types arguments are
-  arguments_known class unborn_yet true types [] are = absurd are
-  arguments_known class unborn_yet true types (this ∷ arguments) are = slots_known (map tag_of types) arguments (this_never_top class unborn_yet) (this_known class unborn_yet this are.0) (values_known types arguments are.1)
+  arguments_known : (unborn_yet no_flag : Bool) (types : List JType) (arguments : List Value) → AreArguments headers code.class (not no_flag) types arguments
+      → AllAre (IsLocal facts) (flat_map slots_of ((if no_flag then (if unborn_yet then tag.UnbornThis else tag.Object (Class code.class)) ∷ [] else []) ++ map tag_of types)) (machine.slots_of arguments)
+  arguments_known unborn_yet false types arguments are = values_known types arguments are
+  arguments_known unborn_yet true types [] are = absurd are
+  arguments_known unborn_yet true types (this ∷ arguments) are = slots_known (map tag_of types) arguments (this_never_top code.class unborn_yet) (this_known unborn_yet this are.0) (values_known types arguments are.1)
 
   -- the frame that a method begins with describes how it begins
-  pub entry_describes : (code : Code) (arguments : List Value) → AreArgumentsOf headers code arguments → Describes code (entry code) [] (first_locals code.max_locals arguments)
-  entry_describes code arguments are =
+  pub entry_describes : (arguments : List Value) → AreArgumentsOf headers code arguments → Describes facts code (entry code) [] (first_locals code.max_locals arguments)
+  entry_describes arguments are =
       let tags : List Tag = flat_map slots_of (entry_values code.class (head_of code)) in
       let locals : Locals = machine.slots_of arguments in
-      let known_are : AllAre IsLocal tags locals = arguments_known code.class (has_unborn_this code.class code.name) (bit_and code.flags 8 == 0) (parameters_of code.descriptor) arguments are in
+      let known_are : AllAre (IsLocal facts) tags locals = arguments_known (has_unborn_this code.class code.name) (bit_and code.flags 8 == 0) (parameters_of code.descriptor) arguments are in
       let many = length-append locals (replicate (code.max_locals - length locals) None) in
       let rest = length-replicate {A = Option Value} (code.max_locals - length locals) None in
       record {

@@ -1,4 +1,6 @@
 pub mod Shapes
+pub mod Shaped
+pub mod Classed
 pub mod Replies
 pub mod Holding
 pub mod Taking

@@ -12,6 +12,7 @@ use Rattle.dj_effects.specs.Works as works
 use Rattle.dj_effects.specs.Operands.{moved_words, begins, form_of}
 use Rattle.dj_effects.specs.Effects as effects
 use Rattle.dj_bytecode.specs.Shuffles.{Form, value_words, has_words, moved, shuffled}
+use Rattle.dj_typed_states.specs.Facts.{Facts}
 use Rattle.dj_typed_states.specs.Held.{IsHeld, unknown, int, long, null, unborn_this, no_object, object, unborn, AllAre, none, more}
 use Rattle.dj_typed_states.proofs.Replies.{Replies}
 
@@ -46,14 +47,14 @@ are_apart (first ∷ rest) [] = false
 are_apart (first ∷ rest) (other ∷ others) = not (first == other) || are_apart rest others
 
 -- a value has the words of its tag, where these are known
-held_words : {held : Tag} {value : Value} → IsHeld held value → (moved_words held ≡ 0) ⊎ (value_words value ≡ moved_words held)
+held_words : {facts : Facts} {held : Tag} {value : Value} → IsHeld facts held value → (moved_words held ≡ 0) ⊎ (value_words value ≡ moved_words held)
 held_words unknown = inl refl
 held_words int = inr refl
 held_words long = inr refl
 held_words null = inr refl
 held_words (unborn_this is) = inr refl
 held_words no_object = inr refl
-held_words (object is shape) = inr refl
+held_words (object is) = inr refl
 held_words (unborn is) = inr refl
 
 one_word : (wanted words found : ℕ) → not (wanted == 0) ≡ true → wanted == words ≡ true → (words ≡ 0) ⊎ (found ≡ words) → found == wanted ≡ true
@@ -61,7 +62,7 @@ one_word wanted words found some is (inl zero_words) = grind (arith, nat_tests)
 one_word wanted words found some is (inr same) = grind (arith, nat_tests)
 
 -- values have the words that their tags begin with
-words_found : (wanted : List ℕ) {tags : List Tag} {stack : List Value} → are_positive wanted ≡ true → AllAre IsHeld tags stack → begins wanted (map moved_words tags) ≡ true → has_words wanted stack ≡ true
+words_found : {facts : Facts} (wanted : List ℕ) {tags : List Tag} {stack : List Value} → are_positive wanted ≡ true → AllAre (IsHeld facts) tags stack → begins wanted (map moved_words tags) ≡ true → has_words wanted stack ≡ true
 words_found [] some are is = refl
 words_found (first ∷ rest) some none is = absurd (false≢true is)
 words_found (first ∷ rest) some (more {first = held} {other = value} {ones = tags} one are) is =
@@ -156,12 +157,12 @@ shuffled_so (first ∷ rest) words stack form all is found has =
 
 -- ---- what is moved
 
-picked_one : (place : ℕ) {tags : List Tag} {stack : List Value} {ones : List Tag} {others : List Value} → place < length tags → AllAre IsHeld tags stack → AllAre IsHeld ones others → AllAre IsHeld (take 1 (drop place tags) ++ ones) (slice_index_or stack place Null ∷ others)
+picked_one : {facts : Facts} (place : ℕ) {tags : List Tag} {stack : List Value} {ones : List Tag} {others : List Value} → place < length tags → AllAre (IsHeld facts) tags stack → AllAre (IsHeld facts) ones others → AllAre (IsHeld facts) (take 1 (drop place tags) ++ ones) (slice_index_or stack place Null ∷ others)
 picked_one place within none behind = absurd (omega arith)
 picked_one zero within (more held are) behind = more held behind
 picked_one (suc place) within (more held are) behind = picked_one place (omega arith) are behind
 
-picked_all : (count : ℕ) (places : List ℕ) {tags : List Tag} {stack : List Value} → count ≤ length tags → are_below count places ≡ true → AllAre IsHeld tags stack → AllAre IsHeld (effects.picked places tags) (map (λ place. slice_index_or stack place Null) places)
+picked_all : {facts : Facts} (count : ℕ) (places : List ℕ) {tags : List Tag} {stack : List Value} → count ≤ length tags → are_below count places ≡ true → AllAre (IsHeld facts) tags stack → AllAre (IsHeld facts) (effects.picked places tags) (map (λ place. slice_index_or stack place Null) places)
 picked_all count [] many below are = none
 picked_all count (place ∷ places) {tags} many below are =
     let parts = and_both (nat_lt place count) (are_below count places) below in
@@ -177,11 +178,11 @@ moved_words_length : (tags : List Tag) → length (map moved_words tags) ≡ len
 moved_words_length [] = refl
 moved_words_length (first ∷ rest) = ap suc (moved_words_length rest)
 
-pub moves_replies : (headers : List Header) (forms : List works.Form) {tags : List Tag} {stack : List Value} → are_lawful forms ≡ true → IsSome (form_of forms (map moved_words tags)) → AllAre IsHeld tags stack
-    → Replies headers (AllAre IsHeld (effects.moved (form_of forms (map moved_words tags)) tags)) (there (shuffled (map as_moved forms) stack))
-moves_replies headers forms {tags} {stack} lawful some are = go (form_of forms (map moved_words tags)) refl some
+pub moves_replies : (facts : Facts) (headers : List Header) (forms : List works.Form) {tags : List Tag} {stack : List Value} → are_lawful forms ≡ true → IsSome (form_of forms (map moved_words tags)) → AllAre (IsHeld facts) tags stack
+    → Replies facts headers (AllAre (IsHeld facts) (effects.moved (form_of forms (map moved_words tags)) tags)) (there (shuffled (map as_moved forms) stack))
+moves_replies facts headers forms {tags} {stack} lawful some are = go (form_of forms (map moved_words tags)) refl some
   where
-    go : (found : Option works.Form) → form_of forms (map moved_words tags) ≡ found → IsSome found → Replies headers (AllAre IsHeld (effects.moved found tags)) (there (shuffled (map as_moved forms) stack))
+    go : (found : Option works.Form) → form_of forms (map moved_words tags) ≡ found → IsSome found → Replies facts headers (AllAre (IsHeld facts) (effects.moved found tags)) (there (shuffled (map as_moved forms) stack))
     go None is some = absurd (false≢true some)
     go (Some form) is some =
         let fit = form_fits forms (map moved_words tags) form lawful is in

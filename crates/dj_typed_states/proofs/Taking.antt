@@ -4,32 +4,28 @@ use Rattle.std.proofs.lemmas.List.{length-append, length-map}
 use Rattle.dj_names.specs.declared.header.Header.{Header}
 use Rattle.dj_values.specs.Values.{Value}
 use Rattle.dj_values.specs.Outcomes.{Reply, Gives, then_on}
-use Rattle.dj_names.specs.Types.{JType}
 use Rattle.dj_frames.specs.Frames.{Tag}
 use Rattle.dj_tags.specs.Goes.{Assignability, reversed}
 use Rattle.dj_tags.proofs.SlotLemmas.{length_reversed}
+use Rattle.dj_code.specs.MethodCode.{Code}
 use Rattle.dj_effects.specs.Works.{Want}
 use Rattle.dj_effects.specs.Operands.{AreWanted, enough, there, under}
 use Rattle.dj_effects.specs.Effects as effects
 use Rattle.dj_bytecode.specs.Machine.{taken, pushed, strict, jumped}
-use Rattle.dj_typed_states.specs.Shapes.{HasShape}
+use Rattle.dj_typed_states.specs.Facts.{Facts, AreKept}
 use Rattle.dj_typed_states.specs.Held.{IsHeld, AllAre, none, more}
+use Rattle.dj_typed_states.specs.Wanted.{IsMeant, Meets, met, top}
 use Rattle.dj_typed_states.proofs.Replies.{Replies, replies-then}
-use Rattle.dj_typed_states.proofs.Holding.{IsMeant, wanted_meant}
+use Rattle.dj_typed_states.proofs.Holding.{wanted_meant}
 
 -- ---- what is taken
 
--- the top of a stack is what is wanted, and what lies below it is of these tags
-pub data Meets : List Want → List Tag → List Value → Type 0 where
-  met : {tags : List Tag} {stack : List Value} → AllAre IsHeld tags stack → Meets [] tags stack
-  top : {want : Want} {wants : List Want} {tags : List Tag} {value : Value} {stack : List Value} → IsMeant want value → Meets wants tags stack → Meets (want ∷ wants) tags (value ∷ stack)
-
-pub meets : (Goes : Assignability) (keeps : (from to : JType) → Goes from to → HasShape to from) {wants : List Want} {tags : List Tag} {stack : List Value} → AreWanted Goes wants tags → AllAre IsHeld tags stack → Meets wants (under wants tags) stack
-meets Goes keeps enough are = met are
-meets Goes keeps (there {first} {top = found} is wanted) (more held are) = top (wanted_meant Goes keeps first found is held) (meets Goes keeps wanted are)
+pub meets : {Goes : Assignability} {headers : List Header} {code : Code} {facts : Facts} (kept : AreKept Goes headers code facts) {wants : List Want} {tags : List Tag} {stack : List Value} → AreWanted Goes wants tags → AllAre (IsHeld facts) tags stack → Meets facts wants (under wants tags) stack
+meets kept enough are = met are
+meets kept (there {first} {top = found} is wanted) (more held are) = top (wanted_meant kept first found is held) (meets kept wanted are)
 
 -- one more, where what lies below begins with a value that is wanted
-pub meets_more : {wants : List Want} {found : Tag} {tags : List Tag} {stack : List Value} (want : Want) → ((value : Value) → IsHeld found value → IsMeant want value) → Meets wants (found ∷ tags) stack → Meets (wants ++ want ∷ []) tags stack
+pub meets_more : {facts : Facts} {wants : List Want} {found : Tag} {tags : List Tag} {stack : List Value} (want : Want) → ((value : Value) → IsHeld facts found value → IsMeant facts want value) → Meets facts wants (found ∷ tags) stack → Meets facts (wants ++ want ∷ []) tags stack
 meets_more want f (met (more held are)) = top (f _ held) (met are)
 meets_more want f (top is rest) = top is (meets_more want f rest)
 
@@ -38,40 +34,40 @@ abbrev pub onto : {A : Type 0} → List A → List A → List A
 onto [] done = done
 onto (first ∷ rest) done = onto rest (first ∷ done)
 
-module _ {A : Type 0} (headers : List Header) (P : A → Type 0) (next : List Value → List Value → Reply A) where
-  pub taken_replies : {wants : List Want} {tags : List Tag} {stack : List Value} (done : List Want) (values : List Value) → Meets wants tags stack → AllAre IsMeant done values
-      → ((operands below : List Value) → AllAre IsMeant (onto wants done) operands → AllAre IsHeld tags below → Replies headers P (next operands below)) → Replies headers P (taken (length wants) values stack next)
+module _ {A : Type 0} (facts : Facts) (headers : List Header) (P : A → Type 0) (next : List Value → List Value → Reply A) where
+  pub taken_replies : {wants : List Want} {tags : List Tag} {stack : List Value} (done : List Want) (values : List Value) → Meets facts wants tags stack → AllAre (IsMeant facts) done values
+      → ((operands below : List Value) → AllAre (IsMeant facts) (onto wants done) operands → AllAre (IsHeld facts) tags below → Replies facts headers P (next operands below)) → Replies facts headers P (taken (length wants) values stack next)
   taken_replies done values (met are) all h = h values _ all are
   taken_replies done values (top {want} {value = value} is rest) all h = taken_replies (want ∷ done) (value ∷ values) rest (more is all) h
 
 -- what was given is such
-abbrev pub IsGiven : Option Tag → Option Value → Type 0
-IsGiven None None = Unit {0}
-IsGiven None (Some value) = ⊥
-IsGiven (Some tag) None = ⊥
-IsGiven (Some tag) (Some value) = IsHeld tag value
+abbrev pub IsGiven : Facts → Option Tag → Option Value → Type 0
+IsGiven facts None None = Unit {0}
+IsGiven facts None (Some value) = ⊥
+IsGiven facts (Some tag) None = ⊥
+IsGiven facts (Some tag) (Some value) = IsHeld facts tag value
 
-pub given_pushed : (gives : Option Tag) (given : Option Value) {tags : List Tag} {stack : List Value} → IsGiven gives given → AllAre IsHeld tags stack → AllAre IsHeld (effects.pushed gives tags) (pushed stack given)
+pub given_pushed : {facts : Facts} (gives : Option Tag) (given : Option Value) {tags : List Tag} {stack : List Value} → IsGiven facts gives given → AllAre (IsHeld facts) tags stack → AllAre (IsHeld facts) (effects.pushed gives tags) (pushed stack given)
 given_pushed None None is are = are
 given_pushed None (Some value) is are = absurd is
 given_pushed (Some tag) None is are = absurd is
 given_pushed (Some tag) (Some value) is are = more is are
 
 -- a strict instruction, by what its operation gives
-pub strict_replies : (headers : List Header) (wants : List Want) (gives : Option Tag) {tags : List Tag} {stack : List Value} (count : ℕ) (operation : List Value → Reply (Option Value)) → count ≡ length wants → Meets wants tags stack
-    → ((operands : List Value) → AllAre IsMeant (onto wants []) operands → Replies headers (IsGiven gives) (operation operands)) → Replies headers (AllAre IsHeld (effects.pushed gives tags)) (strict count operation stack)
-strict_replies headers wants gives {tags} {stack} count operation many meet h =
-    subst (λ n. Replies headers (AllAre IsHeld (effects.pushed gives tags)) (strict n operation stack)) (sym many)
-    (taken_replies headers (AllAre IsHeld (effects.pushed gives tags)) (λ operands below. then_on (operation operands) (λ given. Gives (pushed below given))) [] [] meet none
-    (λ operands below all are. replies-then headers (IsGiven gives) (AllAre IsHeld (effects.pushed gives tags)) (operation operands) (λ given. Gives (pushed below given)) (h operands all) (λ given is. given_pushed gives given is are)))
+pub strict_replies : (facts : Facts) (headers : List Header) (wants : List Want) (gives : Option Tag) {tags : List Tag} {stack : List Value} (count : ℕ) (operation : List Value → Reply (Option Value)) → count ≡ length wants → Meets facts wants tags stack
+    → ((operands : List Value) → AllAre (IsMeant facts) (onto wants []) operands → Replies facts headers (IsGiven facts gives) (operation operands)) → Replies facts headers (AllAre (IsHeld facts) (effects.pushed gives tags)) (strict count operation stack)
+strict_replies facts headers wants gives {tags} {stack} count operation many meet h =
+    subst (λ n. Replies facts headers (AllAre (IsHeld facts) (effects.pushed gives tags)) (strict n operation stack)) (sym many)
+    (taken_replies facts headers (AllAre (IsHeld facts) (effects.pushed gives tags)) (λ operands below. then_on (operation operands) (λ given. Gives (pushed below given))) [] [] meet none
+    (λ operands below all are. replies-then facts headers (IsGiven facts gives) (AllAre (IsHeld facts) (effects.pushed gives tags)) (operation operands) (λ given. Gives (pushed below given)) (h operands all) (λ given is. given_pushed gives given is are)))
 
 -- a jump, by where its choice leads
-pub jumped_replies : (headers : List Header) (wants : List Want) (Leads : Option ℕ → Type 0) {tags : List Tag} {stack : List Value} (count : ℕ) (choice : List Value → Reply (Option ℕ)) → count ≡ length wants → Meets wants tags stack
-    → ((operands : List Value) → AllAre IsMeant (onto wants []) operands → Replies headers Leads (choice operands)) → Replies headers (λ led. Leads led.0 × AllAre IsHeld tags led.1) (jumped count choice stack)
-jumped_replies headers wants Leads {tags} {stack} count choice many meet h =
-    subst (λ n. Replies headers (λ led. Leads led.0 × AllAre IsHeld tags led.1) (jumped n choice stack)) (sym many)
-    (taken_replies headers (λ led. Leads led.0 × AllAre IsHeld tags led.1) (λ operands below. then_on (choice operands) (λ target. Gives (target, below))) [] [] meet none
-    (λ operands below all are. replies-then headers Leads (λ led. Leads led.0 × AllAre IsHeld tags led.1) (choice operands) (λ target. Gives (target, below)) (h operands all) (λ target leads. (leads, are))))
+pub jumped_replies : (facts : Facts) (headers : List Header) (wants : List Want) (Leads : Option ℕ → Type 0) {tags : List Tag} {stack : List Value} (count : ℕ) (choice : List Value → Reply (Option ℕ)) → count ≡ length wants → Meets facts wants tags stack
+    → ((operands : List Value) → AllAre (IsMeant facts) (onto wants []) operands → Replies facts headers Leads (choice operands)) → Replies facts headers (λ led. Leads led.0 × AllAre (IsHeld facts) tags led.1) (jumped count choice stack)
+jumped_replies facts headers wants Leads {tags} {stack} count choice many meet h =
+    subst (λ n. Replies facts headers (λ led. Leads led.0 × AllAre (IsHeld facts) tags led.1) (jumped n choice stack)) (sym many)
+    (taken_replies facts headers (λ led. Leads led.0 × AllAre (IsHeld facts) tags led.1) (λ operands below. then_on (choice operands) (λ target. Gives (target, below))) [] [] meet none
+    (λ operands below all are. replies-then facts headers Leads (λ led. Leads led.0 × AllAre (IsHeld facts) tags led.1) (choice operands) (λ target. Gives (target, below)) (h operands all) (λ target leads. (leads, are))))
 
 -- ---- arguments, of which the last is on top
 

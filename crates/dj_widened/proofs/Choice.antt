@@ -8,6 +8,7 @@ use Rattle.dj_names.specs.Headers.{Name}
 use Rattle.dj_names.specs.Types.{JType}
 use Rattle.dj_names.specs.Assignable.{object_name}
 use Rattle.dj_kinds.specs.Search.{method_order}
+use Rattle.dj_kinds.specs.Own.{is_false_constructor}
 use Rattle.dj_kinds.specs.Choice.{Call}
 use Rattle.dj_values.specs.Deciding.{is_name, is_type, is_some_and, is_array_clone}
 use Rattle.dj_meaning.specs.Members.{Method, Members, parameters, is_public, is_private, is_of_class, is_bridge}
@@ -234,7 +235,8 @@ module _ (world headers : List Header) (wide : Widens world headers) (members : 
           let second = interface_same world headers wide start has in
           λ i. filter (λ (method : Method). is_name method.name name
           && ((is_name start class || not (first i) || not (is_of_class method.flags || is_private method.flags))
-          && (not (second i) || first i || (is_public method.flags && not (is_of_class method.flags))))) (methods_in (members_of world members class))
+          && (not (second i) || first i || (is_public method.flags && not (is_of_class method.flags)))
+          && not (is_false_constructor method.name method.descriptor))) (methods_in (members_of world members class))
 
   module _ (call : Call) (from : IsWhole world call.from) (class : IsWhole world call.class) (through : IsThroughWhole world call.through) (arguments : AreAllWhole world call.arguments) where
     candidate_same : is_candidate headers call ≡ is_candidate world call

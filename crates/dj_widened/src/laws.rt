@@ -10,6 +10,7 @@ ghost use Rattle.dj_meaning.specs.Members.{Members};
 ghost use Rattle.dj_meaning.specs.Calls.{MethodIn, chosen};
 ghost use Rattle.dj_meaning.specs.Fields.{selected, named_field};
 ghost use Rattle.dj_typing.specs.Sites.{is_whole, is_whole_type};
+ghost use Rattle.dj_loaded.specs.Loaded.{MayRun, HasCore};
 ghost use Rattle.dj_widened.specs.Widens.{Widens};
 ghost use Rattle.dj_widened.specs.Meant.{IsCallWhole};
 
@@ -18,6 +19,11 @@ pub fn what_goes_up_stays_so()
     ensures subclass { (world headers : List Header) → Widens world headers → (lower upper : Name) → IsSubclass world lower upper → IsSubclass headers lower upper }
     ensures implements { (world headers : List Header) → Widens world headers → (lower upper : Name) → Implements world lower upper → Implements headers lower upper }
     ensures subtype { (world headers : List Header) → Widens world headers → (from to : JType) → IsSubtype world from to → IsSubtype headers from to }
+{}
+
+/// Where classes may run beside those of a world that has the core, they widen it.
+pub fn what_may_run_widens()
+    ensures widens { (world headers : List Header) → HasCore world → MayRun world headers → Widens world headers }
 {}
 
 /// From classes that a world has whole a name means the same member where other classes run: it selects the same field, and a call that means a method means it still.
