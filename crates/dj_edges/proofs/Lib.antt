@@ -1,0 +1,4 @@
+pub mod Entering
+pub mod Spilling
+pub mod Dressing
+pub mod Split
