@@ -1,0 +1,11 @@
+pub mod Calling
+pub mod Ordering
+pub mod DeclaredBodies
+pub mod FreeLabels
+pub mod Passing
+pub mod Leaving
+pub mod Occurring
+pub mod Sound
+pub mod Copying
+pub mod Heading
+pub use Rattle.dj_declare.proofs.Goes

@@ -1,0 +1,5 @@
+pub mod Moved
+pub mod Named
+pub mod Alike
+pub mod RunsAlike
+pub mod StatesAlike
