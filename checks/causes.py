@@ -1,0 +1,130 @@
+"""Compares the causes for which methods with code are refused with a second reading of them, on whole packages.
+
+usage: python3 checks/causes.py PROGRAM [PACKAGE-OR-JAR..], with the built decompile as PROGRAM, or - for the second reading alone.
+The class files of each Debian package, which apt-get downloads, or of each jar (libcommons-lang3-java, libguava-java and
+libxerces2-java where none is named) are printed together, in a world of the stubs that `tools/class_worlds.py` makes of the
+JDK's classes; what neither has is missing. For each method with code that is verified, in a class that isn't refused as a whole,
+the report has to tell the first cause that `cause_rules.py` finds, with its pc, class, name or count, or to have no such line where
+it finds none. What stands above classes, what is found, meant and may be used, and which names can be said, says
+`cause_worlds.py`; frames, the strict check of types and ways of control `cause_codes.py`: all from the standards and this project's
+own rules, none from the program. Of a method with an instruction on monitors Float to Interface alone are compared, since
+monitors aren't paired here. Methods that the program finds bad or unverified are counted and passed over. Each method that differs is
+printed, the shortest first, and the exit status is 1.
+"""
+import collections, pathlib, struct, subprocess, sys, tempfile, zipfile
+
+FOLDER = pathlib.Path(__file__).resolve().parent
+sys.dont_write_bytecode = True
+sys.path.insert(1, str(FOLDER.parent / "tools"))
+import class_stubs
+from asking import end
+from cause_codes import Code
+from cause_rules import Method, first_cause
+from cause_worlds import Class, World
+from class_file_format import fault
+from class_sources import jdk_source
+from class_worlds import Library, world_of, write_world
+from code import package_files
+from instruction_format import shown
+
+PACKAGES = ["libcommons-lang3-java", "libguava-java", "libxerces2-java"]
+SKIPPED = ("bad", "unverified")
+
+
+def class_files(folder, name):
+    """The class files of a package or a jar that the program reads, one for each class."""
+    if name.endswith(".jar"):
+        with zipfile.ZipFile(name) as jar:
+            files = [jar.read(each) for each in jar.namelist() if each.endswith(".class") and not each.startswith("META-INF/")]
+    else:
+        files = list(package_files(folder, name))
+    found = {}
+    for data in files:
+        if 50 <= struct.unpack(">H", data[6:8])[0] <= 52 and fault(data) is None:
+            found.setdefault(class_stubs.read(data).name, data)
+    return found
+
+
+def report_of(program, folder, files):
+    """The report of the program on these class files, in their world, and the bytes of the stubs."""
+    needed, missing = world_of({name: class_stubs.read(data).names() for name, data in files.items()}, Library([jdk_source(None)]))
+    room = pathlib.Path(folder)
+    write_world(needed, folder, "")
+    words = [f"{place}.class" for place in range(len(files))]
+    for word, data in zip(words, files.values()):
+        (room / word).write_bytes(data)
+    lines = []
+    if program != "-":
+        ran = subprocess.run([program, *words, "--world", "LIST"], cwd=folder, stdout=subprocess.DEVNULL, stderr=subprocess.PIPE)
+        assert ran.returncode in (0, 1), (ran.returncode, ran.stderr[-300:])
+        lines = ran.stderr.decode().splitlines()
+    return lines, [it.content for it in needed.values()], missing
+
+
+def told_by(lines):
+    """What the report tells, by what it is told of: the rest of each line."""
+    found = collections.defaultdict(list)
+    for line in lines:
+        subject, _, rest = line.partition(" ")
+        assert not rest.startswith(("broken", "clash")), line
+        found[subject].append(rest)
+    return found
+
+
+class Tally:
+    def __init__(self):
+        self.causes, self.wrong = collections.Counter(), []
+
+    def compare(self, subject, one, theirs):
+        """Compares the first cause of a method with what the report tells of it."""
+        if theirs.startswith(SKIPPED):
+            self.causes[theirs.split(" ")[0]] += 1
+            return
+        cause = first_cause(one)
+        name, told = cause or ("none", "")
+        self.causes[name] += 1
+        ours = f"refused {name} {shown(str(told))}".rstrip() if name not in ("none", "Monitor") else name
+        if ours != theirs if ours.startswith("refused") else theirs.startswith("refused"):
+            self.wrong.append((len(one.head.code), subject, "second reading:", ours, "program:", theirs or "printed"))
+
+
+def methods_of(world, owner):
+    """The methods of a class with code: how the report names each, and its place."""
+    for place, head in enumerate(owner.methods):
+        if head.code is not None:
+            yield f"{shown(owner.name)}.{shown(head.name)}{shown(head.descriptor)}", place
+
+
+def compare(program, name, tally):
+    """Compares the methods of a package, and tells what was looked at."""
+    with tempfile.TemporaryDirectory() as folder:
+        files = class_files(folder, name)
+        lines, stubs, missing = report_of(program, folder, files)
+    named = [Class(data, 50) for data in files.values()]
+    world, told = World(named + [Class(data) for data in stubs]), told_by(lines)
+    refused, count = 0, 0
+    for owner in named:
+        if told.get(shown(owner.name)):
+            refused += 1
+            continue
+        for subject, place in methods_of(world, owner):
+            count += 1
+            theirs = told[subject].pop(0) if told.get(subject) else ""
+            if not theirs.startswith(SKIPPED):
+                tally.compare(subject, Method(world, owner, place, Code(owner.name, owner.methods[place], owner.pool)), theirs)
+    print(f"{name}: {len(named)} classes, {len(stubs)} stubs, {len(missing)} missing; {refused} classes refused, {count} methods with code")
+
+
+def main(words):
+    program = words[0] if words[0] == "-" else str(pathlib.Path(words[0]).resolve())
+    wrong = []
+    for name in words[1:] or PACKAGES:
+        tally = Tally()
+        compare(program, name, tally)
+        print("  " + ", ".join(f"{cause} {count}" for cause, count in tally.causes.most_common()))
+        wrong += tally.wrong
+    return end("methods whose cause differs", [] if program == "-" else sorted(wrong))
+
+
+if __name__ == "__main__":
+    sys.exit(main(sys.argv[1:]))
