@@ -333,6 +333,17 @@ def a_first_text(case):
     expect(status == 9 and "can't be compiled" in errors, f"a kit that fails: {status}: {errors}")
 
 
+def the_program_that_was_built(case):
+    if case.program != PROGRAM or not PROGRAM.with_name("built").is_file():
+        print("skipped: ./decompile by the program that was proved and built, since there is none, or another one is tried")
+        return
+    status, version, _ = case.run(ROOT / "decompile", "--version")
+    expect(status == 0 and version.endswith(", proved\n"), f"--version ends with {status}: {version!r}")
+    wanted = 0, (ROOT / "crates/decompile/stdout").read_text(), ""
+    ran = case.run(ROOT / "decompile", ROOT / "crates/decompile/data/C.class")
+    expect(ran == wanted, f"it ends with {ran}")
+
+
 def jdks_of_each_form(case):
     (case.folder / "C.class").write_bytes(class_file(b"C", b"java/lang/StringBuilder"))
     files = [(str(it.relative_to(case.jdk)), it.read_bytes()) for it in case.jdk.rglob("*.class")]
@@ -386,6 +397,7 @@ def stubs_are_as_their_classes(case):
 
 CASES = (
     a_first_text,
+    the_program_that_was_built,
     jdks_of_each_form,
     stubs_are_as_their_classes,
     two_runs_are_the_same,
