@@ -1,6 +1,9 @@
 """Compares the causes for which methods with code are refused with a second reading of them, on whole packages.
 
-usage: python3 checks/causes.py PROGRAM [PACKAGE-OR-JAR..], with the built decompile as PROGRAM, or - for the second reading alone.
+usage: python3 checks/causes.py PROGRAM [PACKAGE-OR-JAR..]
+       python3 checks/causes.py PROGRAM families [COUNT [SEED]]
+
+PROGRAM is the built decompile, or - for the second reading alone.
 The class files of each Debian package, which apt-get downloads, or of each jar (libcommons-lang3-java, libguava-java and
 libxerces2-java where none is named) are printed together, in a world of the stubs that `tools/class_worlds.py` makes of the
 JDK's classes; what neither has is missing. For each method with code that is verified, in a class that isn't refused as a whole,
@@ -8,10 +11,11 @@ the report has to tell the first cause that `cause_rules.py` finds, with its pc,
 it finds none. What stands above classes, what is found, meant and may be used, and which names can be said, says
 `cause_worlds.py`; frames, the strict check of types and ways of control `cause_codes.py`: all from the standards and this project's
 own rules, none from the program. Of a method with an instruction on monitors Float to Interface alone are compared, since
-monitors aren't paired here. Methods that the program finds bad or unverified are counted and passed over. Each method that differs is
-printed, the shortest first, and the exit status is 1.
+monitors aren't paired here. Methods that the program finds bad or unverified are counted and passed over. With the word `families` the
+same is asked of COUNT (300) random families of classes (`cause_families.py`), in which each cause but Dynamic and Large comes often.
+Each method that differs is printed, the shortest first, and the exit status is 1.
 """
-import collections, pathlib, struct, subprocess, sys, tempfile, zipfile
+import collections, pathlib, random, struct, subprocess, sys, tempfile, zipfile
 
 FOLDER = pathlib.Path(__file__).resolve().parent
 sys.dont_write_bytecode = True
@@ -19,6 +23,7 @@ sys.path.insert(1, str(FOLDER.parent / "tools"))
 import class_stubs
 from asking import end
 from cause_codes import Code
+from cause_families import some_family
 from cause_rules import Method, first_cause
 from cause_worlds import Class, World
 from class_file_format import fault
@@ -45,9 +50,9 @@ def class_files(folder, name):
     return found
 
 
-def report_of(program, folder, files):
+def report_of(program, folder, files, library):
     """The report of the program on these class files, in their world, and the bytes of the stubs."""
-    needed, missing = world_of({name: class_stubs.read(data).names() for name, data in files.items()}, Library([jdk_source(None)]))
+    needed, missing = world_of({name: class_stubs.read(data).names() for name, data in files.items()}, library)
     room = pathlib.Path(folder)
     write_world(needed, folder, "")
     words = [f"{place}.class" for place in range(len(files))]
@@ -72,14 +77,16 @@ def told_by(lines):
 
 
 class Tally:
+    """What was looked at, which causes were found, and which methods differ."""
+
     def __init__(self):
-        self.causes, self.wrong = collections.Counter(), []
+        self.counts, self.causes, self.wrong = collections.Counter(), collections.Counter(), []
+
+    def count(self, **more):
+        self.counts.update(more)
 
     def compare(self, subject, one, theirs):
         """Compares the first cause of a method with what the report tells of it."""
-        if theirs.startswith(SKIPPED):
-            self.causes[theirs.split(" ")[0]] += 1
-            return
         cause = first_cause(one)
         name, told = cause or ("none", "")
         self.causes[name] += 1
@@ -88,42 +95,60 @@ class Tally:
             self.wrong.append((len(one.head.code), subject, "second reading:", ours, "program:", theirs or "printed"))
 
 
-def methods_of(world, owner):
+def methods_of(owner):
     """The methods of a class with code: how the report names each, and its place."""
     for place, head in enumerate(owner.methods):
         if head.code is not None:
             yield f"{shown(owner.name)}.{shown(head.name)}{shown(head.descriptor)}", place
 
 
-def compare(program, name, tally):
-    """Compares the methods of a package, and tells what was looked at."""
+def compare(program, files, library, tally):
+    """Compares the methods of classes of one world."""
     with tempfile.TemporaryDirectory() as folder:
-        files = class_files(folder, name)
-        lines, stubs, missing = report_of(program, folder, files)
+        lines, stubs, missing = report_of(program, folder, files, library)
     named = [Class(data, 50) for data in files.values()]
     world, told = World(named + [Class(data) for data in stubs]), told_by(lines)
-    refused, count = 0, 0
+    tally.count(classes=len(named), stubs=len(stubs), missing=len(missing))
     for owner in named:
         if told.get(shown(owner.name)):
-            refused += 1
+            tally.count(refused=1)
             continue
-        for subject, place in methods_of(world, owner):
-            count += 1
+        for subject, place in methods_of(owner):
+            tally.count(methods=1)
             theirs = told[subject].pop(0) if told.get(subject) else ""
-            if not theirs.startswith(SKIPPED):
+            if theirs.startswith(SKIPPED):
+                tally.causes[theirs.split(" ")[0]] += 1
+            else:
                 tally.compare(subject, Method(world, owner, place, Code(owner.name, owner.methods[place], owner.pool)), theirs)
-    print(f"{name}: {len(named)} classes, {len(stubs)} stubs, {len(missing)} missing; {refused} classes refused, {count} methods with code")
+
+
+def compare_all(program, name, worlds):
+    """Compares the methods of several worlds, tells what was looked at, and answers the differences."""
+    library, tally = Library([jdk_source(None)]), Tally()
+    for files in worlds:
+        compare(program, files, library, tally)
+    print(f"{name}: " + ", ".join(f"{word} {count}" for word, count in tally.counts.items()))
+    print("  " + ", ".join(f"{cause} {count}" for cause, count in tally.causes.most_common()))
+    return [] if program == "-" else tally.wrong
+
+
+def families(words):
+    """The class files of random families."""
+    count, seed = (int(words[at]) if len(words) > at else more for at, more in ((0, 300), (1, 1)))
+    for number in range(count):
+        made = some_family(random.Random(f"{seed} {number}"))
+        yield {name.encode(): data for name, data in made.items()}
 
 
 def main(words):
-    program = words[0] if words[0] == "-" else str(pathlib.Path(words[0]).resolve())
-    wrong = []
-    for name in words[1:] or PACKAGES:
-        tally = Tally()
-        compare(program, name, tally)
-        print("  " + ", ".join(f"{cause} {count}" for cause, count in tally.causes.most_common()))
-        wrong += tally.wrong
-    return end("methods whose cause differs", [] if program == "-" else sorted(wrong))
+    program, wrong = words[0] if words[0] == "-" else str(pathlib.Path(words[0]).resolve()), []
+    if words[1:2] == ["families"]:
+        wrong = compare_all(program, "families", families(words[2:]))
+    else:
+        for name in words[1:] or PACKAGES:
+            with tempfile.TemporaryDirectory() as folder:
+                wrong += compare_all(program, name, [class_files(folder, name)])
+    return end("methods whose cause differs", sorted(wrong))
 
 
 if __name__ == "__main__":
