@@ -1,6 +1,7 @@
 """Compares the causes for which methods with code are refused with a second reading of them, on whole packages.
 
 usage: python3 checks/causes.py PROGRAM [PACKAGE-OR-JAR..]
+       python3 checks/causes.py PROGRAM changed SEED [PACKAGE-OR-JAR..]
        python3 checks/causes.py PROGRAM families [COUNT [SEED]]
 
 PROGRAM is the built decompile, or - for the second reading alone.
@@ -11,9 +12,10 @@ the report has to tell the first cause that `cause_rules.py` finds, with its pc,
 it finds none. What stands above classes, what is found, meant and may be used, and which names can be said, says
 `cause_worlds.py`; frames, the strict check of types and ways of control `cause_codes.py`: all from the standards and this project's
 own rules, none from the program. Of a method with an instruction on monitors Float to Interface alone are compared, since
-monitors aren't paired here. Methods that the program finds bad or unverified are counted and passed over. With the word `families` the
-same is asked of COUNT (300) random families of classes (`cause_families.py`), in which each cause but Dynamic and Large comes often.
-Each method that differs is printed, the shortest first, and the exit status is 1.
+monitors aren't paired here. Methods that the program finds bad or unverified are counted and passed over. With the word `changed` the
+same is asked of packages in which some members may be used elsewhere, and some code names other members (`cause_damages.py`); with
+`families` of COUNT (300) random families of classes (`cause_families.py`). Each method that differs is printed, the shortest first,
+and the exit status is 1.
 """
 import collections, pathlib, random, struct, subprocess, sys, tempfile, zipfile
 
@@ -23,6 +25,7 @@ sys.path.insert(1, str(FOLDER.parent / "tools"))
 import class_stubs
 from asking import end
 from cause_codes import Code
+from cause_damages import changed
 from cause_families import some_family
 from cause_rules import Method, first_cause
 from cause_worlds import Class, World
@@ -145,9 +148,12 @@ def main(words):
     if words[1:2] == ["families"]:
         wrong = compare_all(program, "families", families(words[2:]))
     else:
-        for name in words[1:] or PACKAGES:
+        rng, rest = (random.Random(int(words[2])), words[3:]) if words[1:2] == ["changed"] else (None, words[1:])
+        for name in rest or PACKAGES:
             with tempfile.TemporaryDirectory() as folder:
-                wrong += compare_all(program, name, [class_files(folder, name)])
+                files = class_files(folder, name)
+                worlds = [{each: changed(rng, data) if rng else data for each, data in files.items()}]
+                wrong += compare_all(program, name, worlds)
     return end("methods whose cause differs", sorted(wrong))
 
 
