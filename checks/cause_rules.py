@@ -125,10 +125,12 @@ def meant_by(one, at, start, through):
 
 def lacks_method(one, at):
     """Whether a call doesn't mean the method that it names, or not by this kind of call."""
-    owner, interface, name, _ = at.parts
+    owner = at.parts[0]
     is_array = owner[0] == "["
     start = "java/lang/Object" if is_array else owner[1:-1]
-    if (interface == "true") != (not is_array and one.world.is_interface(start)) or is_array and at.word != "InvokeVirtual":
+    if at.word in ("InvokeVirtual", "InvokeInterface") and (at.word == "InvokeInterface") != one.world.is_interface(start):
+        return True
+    if is_array and at.word != "InvokeVirtual":
         return True
     if at.word == "InvokeSpecial":
         return not is_lawful_special(one, at, start)
