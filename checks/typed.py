@@ -32,7 +32,7 @@ RULES = [(rf"^{key}", kinds) for key, kinds in [
     (r"(cant.resolve|doesnt.exist|already.defined|cant.ref.before.ctor.called|not.encl.class)", "Name"),
     (r"not.def.public.cant.access: pack.[HN]\w+, ", "Name"), (r"not.def.public.cant.access: \w+\(", "Call"), (r"not.def.public.cant.access", "Access"),
     (r"cant.assign.val", "Access"), (r"cant.deref: void", "WrongType"), (r"cant.deref", "Access Call"),
-    (r"(prob.found.req|type.found.req|operator.cant.be.applied|incomparable.types|unexpected.type|array.req.but.found|void.not.allowed|duplicate|preview.feature|constant.label)", "WrongType"),
+    (r"(prob.found.req|type.found.req|operator.cant.be.applied|incomparable.types|unexpected.type|array.req.but.found|void.not.allowed|duplicate|preview.feature|not.exhaustive.statement|constant.label)", "WrongType"),
 ]]
 
 
