@@ -6,7 +6,7 @@ usage: python3 checks/causes.py PROGRAM [PACKAGE-OR-JAR..]
 
 PROGRAM is the built decompile, or - for the second reading alone.
 The class files of each Debian package, which apt-get downloads, or of each jar (libcommons-lang3-java, libguava-java and
-libxerces2-java where none is named) are printed together, in a world of the stubs that `tools/class_worlds.py` makes of the
+libguice-java where none is named) are printed together, in a world of the stubs that `tools/class_worlds.py` makes of the
 JDK's classes; what neither has is missing. For each method with code that is verified, in a class that isn't refused as a whole,
 the report has to tell the first cause that `cause_rules.py` finds, with its pc, class, name or count, or to have no such line where
 it finds none. What stands above classes, what is found, meant and may be used, and which names can be said, says
@@ -35,7 +35,7 @@ from class_worlds import Library, world_of, write_world
 from code import package_files
 from instruction_format import shown
 
-PACKAGES = ["libcommons-lang3-java", "libguava-java", "libxerces2-java"]
+PACKAGES = ["libcommons-lang3-java", "libguava-java", "libguice-java"]
 SKIPPED = ("bad", "unverified")
 
 
