@@ -13,6 +13,7 @@ pub mod Blocks
 pub mod Leaving
 pub mod Jumps
 pub mod Rebuilt
+pub mod Behind
 pub mod Located
 mod Examples
 pub mod Alike

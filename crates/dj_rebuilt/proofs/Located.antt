@@ -1,11 +1,11 @@
 -- A block's statements show it over the locals of the machine: what is asked of locals and variables holds of slots that are named.
-use Rattle.std.proofs.Common.{ℕ, ◌<◌, ◌≡◌, ◌≢◌, Bool, true, false, eqb, List, [], ◌∷◌, length-set, get_or-set_same, get_or-set_other, Some, None, ⊎_elim, refl, sym, ap, ◌∙◌, subst, arith, IsSome}
+use Rattle.std.proofs.Common.{ℕ, ◌<◌, ◌≡◌, ◌≢◌, Bool, true, false, eqb, List, [], ◌∷◌, length-set, Contains, get_or-set_same, get_or-set_other, Some, None, ⊎_elim, refl, sym, ap, ◌∙◌, subst, arith, IsSome}
 use Rattle.std.proofs.lemmas.Bool.Decides.{eqb_tells}
 use Rattle.std.specs.Prelude.{if◌then◌else◌, slice_index_or, slice_set}
 use Rattle.dj_names.specs.Types.{JType}
 use Rattle.dj_syntax.specs.declared.variable.Var.{Var}
 use Rattle.dj_syntax.specs.Trees.{Stms}
-use Rattle.dj_instructions.specs.Instructions.{Instructions}
+use Rattle.dj_instructions.specs.Instructions.{Instruction, Instructions}
 use Rattle.dj_code.specs.MethodCode.{Code}
 use Rattle.dj_values.specs.Values.{Value, Null}
 use Rattle.dj_meaning.specs.StaticTypes.{Context, Scope, is_same_variable, typed}
@@ -20,7 +20,8 @@ use Rattle.dj_rebuilding.specs.Rest.{ShowsRest}
 use Rattle.dj_rebuilding.proofs.Names.{same-itself, one-variable}
 use Rattle.dj_rebuilding.proofs.Spills.{Settled, atom-agrees}
 use Rattle.dj_rebuilt.specs.Rebuilding.{Names, atom_type, renamed, nothing_there, static_of, Ways, rebuilt}
-use Rattle.dj_rebuilt.specs.Located.{IsReady, AreNamed, AreNames, Owns, AllOwn, Entries, LeavesAlike, NothingCaught, WaysHold}
+use Rattle.dj_rebuilt.specs.Located.{IsReady, AreNamed, AreNames, Owns, AllOwn, IsBehind, AllStandIn, Entries, LeavesAlike, NothingCaught, WaysHold}
+use Rattle.dj_rebuilt.proofs.Behind.{goes-behind}
 use Rattle.dj_rebuilt.proofs.Blocks.{Writes, WritesNull}
 use Rattle.dj_rebuilt.proofs.Rebuilt.{WaysShow, AllStand, block-shows}
 
@@ -150,33 +151,37 @@ null-writes context most names slot within = record {
 
 -- from locals that variables have, the statements of a block show what its instructions show, and leave it alike
 pub located-shows : (context : Context) (bound base most : ℕ) (scope : Scope) (owner : Var → ℕ) (code : Code) (starts : ℕ → Bool) (ways : Ways) (entries : Entries) → code.handlers ≡ [] → WaysHold context bound base most scope owner code starts ways entries
-    → (code_left : Instructions) → AllOwn base most scope owner ways code_left → (names : Names) → AreNames context base most scope owner names → (n : ℕ) (inner : Scope) (stack : List Pending) → IsReady context base scope n inner stack
+    → (code_left : Instructions) → AllStandIn code code_left → AllOwn base most scope owner ways code_left → (names : Names) → AreNames context base most scope owner names → (n : ℕ) (inner : Scope) (stack : List Pending) → IsReady context base scope n inner stack
     → (statements : Stms) → rebuilt context.headers code.class ways starts names n stack code_left ≡ Some statements
     → ShowsRest context NothingCaught (LeavesAlike context base most scope owner code entries) (AreNamed context most names) inner stack (block context.headers local_slots code starts code_left) (run_then context inner bound statements (pure Normal))
-located-shows context bound base most scope owner code starts ways entries none hold code_left own names lawful n inner stack ready statements e =
-    block-shows context bound base settled local_slots code none starts ways scope (AreNamed context most) (AreNames context base most scope owner) (Owns base most scope owner ways) show code_left (all-stand code_left own) names lawful n inner stack ready statements e
+located-shows context bound base most scope owner code starts ways entries none hold code_left in_code own names lawful n inner stack ready statements e =
+    block-shows context bound base settled local_slots code none starts ways scope (AreNamed context most) (AreNames context base most scope owner) Stands show code_left (all-stand code_left in_code own) names lawful n inner stack ready statements e
   where
+    -- an instruction of the code, what is behind it, and the slots that it writes
+    Stands : ℕ → Instruction → Instructions → Type 0
+    Stands pc instruction rest = Contains code.instructions (pc, instruction) × IsBehind code instruction rest × Owns base most scope owner ways pc instruction
+
     settled : Settled {A = Place} base NothingCaught (LeavesAlike context base most scope owner code entries)
     settled = located-settled context base most scope owner code entries
 
-    show : WaysShow context bound base settled local_slots code none starts ways scope (AreNamed context most) (AreNames context base most scope owner) (Owns base most scope owner ways)
+    show : WaysShow context bound base settled local_slots code none starts ways scope (AreNamed context most) (AreNames context base most scope owner) Stands
     show = record {
       stays = λ names lawful. record { related = λ own store other agree h. named-agree context base most scope owner names lawful own store other agree h; enough = λ own store h. tt };
       reads = λ names lawful. record { reads = λ own store h slot type atom e. h.has slot type atom e; kept = λ own store h slot type atom e one is. h.kept slot type atom e one is };
       atoms = λ names lawful slot type atom e. lawful.entries slot type atom e;
-      nulls = λ names lawful pc instruction stands slot writes. let within = stands.within slot writes in (null-lawful context base most scope owner names lawful slot within, null-writes context most names slot within);
-      targets = λ names lawful pc instruction stands slot writes target type at_pc.
-          let o = stands.owns slot writes target type at_pc in
+      nulls = λ names lawful pc instruction rest stands slot writes. let within = stands.2.within slot writes in (null-lawful context base most scope owner names lawful slot within, null-writes context most names slot within);
+      targets = λ names lawful pc instruction rest stands slot writes target type at_pc.
+          let o = stands.2.owns slot writes target type at_pc in
           record { old = o.1; known = o.2; lawful = renamed-lawful context base most scope owner names lawful slot target type o.0 o.1 o.2 o.3; writes = located-writes context base most scope owner names lawful slot target type o.0 o.3 };
       goes = hold.goes;
       constants = λ instruction found is count operation means. let c = hold.constants instruction found is count operation means in (c.nothing, c.noded);
-      nodes = hold.nodes;
-      effects = hold.effects;
-      births = hold.births;
-      falls = hold.falls;
-      leaves = λ names lawful n scope' stack ready pc instruction rest stands on statements is. hold.leaves names lawful n scope' stack ready pc instruction rest on statements is;
+      nodes = λ pc instruction rest stands. hold.nodes pc instruction stands.0;
+      effects = λ pc instruction rest stands. hold.effects pc instruction stands.0;
+      births = λ pc instruction rest stands. hold.births pc instruction stands.0;
+      falls = λ names lawful n scope' stack ready pc instruction rest stands on. hold.falls names lawful n scope' stack ready rest (stands.1 (goes-behind context.headers code.class instruction on));
+      leaves = λ names lawful n scope' stack ready pc instruction rest stands on statements is. hold.leaves names lawful n scope' stack ready pc instruction rest stands.0 stands.1 on statements is;
     }
 
-    all-stand : (left : Instructions) → AllOwn base most scope owner ways left → AllStand context bound base settled local_slots code none starts ways scope (AreNamed context most) (AreNames context base most scope owner) (Owns base most scope owner ways) show left
-    all-stand [] h = tt
-    all-stand (first ∷ rest) h = (h.0, all-stand rest h.1)
+    all-stand : (left : Instructions) → AllStandIn code left → AllOwn base most scope owner ways left → AllStand context bound base settled local_slots code none starts ways scope (AreNamed context most) (AreNames context base most scope owner) Stands show left
+    all-stand [] k h = tt
+    all-stand (first ∷ rest) k h = ((k.0, k.1, h.0), all-stand rest k.2 h.1)

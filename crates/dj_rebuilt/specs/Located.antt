@@ -1,5 +1,5 @@
 -- When the statements of a block show it: locals are the values of variables, before it and wherever it leads.
-use Rattle.std.specs.Prelude.{◌≡◌, ℕ, ◌<◌, ◌≤◌, Bool, true, false, if◌then◌else◌, ℤ, length, List, [], ◌∷◌, Option, Some, None, slice_index_or, IsSome}
+use Rattle.std.specs.Prelude.{◌≡◌, ℕ, ◌<◌, ◌≤◌, Bool, true, false, if◌then◌else◌, ℤ, length, List, [], ◌∷◌, Contains, Option, Some, None, slice_index_or, IsSome}
 use Rattle.dj_names.specs.declared.header.Header.{Header}
 use Rattle.dj_names.specs.Headers.{Name}
 use Rattle.dj_names.specs.Types.{JType, Class, StaticType, Of}
@@ -8,6 +8,7 @@ use Rattle.dj_syntax.specs.Trees.{Exp, Stms}
 use Rattle.dj_instructions.specs.declared.kinds.Kind.{Kind}
 use Rattle.dj_instructions.specs.Instructions.{Instruction, Instructions}
 use Rattle.dj_code.specs.MethodCode.{Code}
+use Rattle.dj_starts.specs.Control.{control_of, falls_through}
 use Rattle.dj_values.specs.Values.{RefValue, Value, Ref}
 use Rattle.dj_values.specs.Outcomes.{Reply, State, Outcome, Is}
 use Rattle.dj_meaning.specs.StaticTypes.{Context, Scope}
@@ -65,6 +66,17 @@ abbrev pub AllOwn : ℕ → ℕ → Scope → (Var → ℕ) → Ways → Instruc
 AllOwn base most scope owner ways [] = Unit {0}
 AllOwn base most scope owner ways (first ∷ rest) = Owns base most scope owner ways first.0 first.1 × AllOwn base most scope owner ways rest
 
+-- ---- the code's own rests
+
+-- where control may go on behind an instruction, what stands behind it is the code from there on
+abbrev pub IsBehind : Code → Instruction → Instructions → Type 0
+IsBehind code instruction rest = falls_through (control_of instruction) ≡ true → code_from (pc_of rest) code.instructions ≡ rest
+
+-- each is an instruction of the code, and what stands behind it is the code's
+abbrev pub AllStandIn : Code → Instructions → Type 0
+AllStandIn code [] = Unit {0}
+AllStandIn code (first ∷ rest) = Contains code.instructions first × IsBehind code first.1 rest × AllStandIn code rest
+
 -- ---- how a block is left
 
 -- how the blocks of a method begin, by their numbers: the offset, the names of the slots, and the entries of the stack
@@ -94,18 +106,19 @@ NothingCaught locals store = Unit {0}
 
 -- ---- what rebuilding rests on
 
--- what stands for instructions does what they do, and the statements by which a block is left lead where it leads
+-- what stands for the code's instructions does what they do, and the statements by which a block is left lead where it leads
 pub record WaysHold (context : Context) (bound base most : ℕ) (scope : Scope) (owner : Var → ℕ) (code : Code) (starts : ℕ → Bool) (ways : Ways) (entries : Entries) : Type 0 where
   pub goes : (static : StaticType) (type : JType) → ways.goes static type ≡ true → (reference : RefValue) → is_kept context.headers static (Ref reference) ≡ true → is_kept_by context.headers type (Ref reference) ≡ true
   pub constants : (instruction : Instruction) (found : StaticType × Atom) → ways.constant instruction ≡ Some found → (count : ℕ) (operation : List Value → Reply (Option Value)) → meaning_of context.headers code.class instruction ≡ Strict count operation → IsConstant context count operation found
-  pub nodes : (instruction : Instruction) (are : List Typed) (found : Typed) → ways.node instruction are ≡ Some found → (count : ℕ) (operation : List Value → Reply (Option Value)) → meaning_of context.headers code.class instruction ≡ Strict count operation
+  pub nodes : (pc : ℕ) (instruction : Instruction) → Contains code.instructions (pc, instruction) → (are : List Typed) (found : Typed) → ways.node instruction are ≡ Some found → (count : ℕ) (operation : List Value → Reply (Option Value)) → meaning_of context.headers code.class instruction ≡ Strict count operation
       → (n : ℕ) (inner : Scope) → AreOperands context n inner are → IsNoded context n inner operation are found
-  pub effects : (instruction : Instruction) (are : List Typed) (found : Plain) → ways.effect instruction are ≡ Some found → (count : ℕ) (operation : List Value → Reply (Option Value)) → meaning_of context.headers code.class instruction ≡ Strict count operation
+  pub effects : (pc : ℕ) (instruction : Instruction) → Contains code.instructions (pc, instruction) → (are : List Typed) (found : Plain) → ways.effect instruction are ≡ Some found → (count : ℕ) (operation : List Value → Reply (Option Value)) → meaning_of context.headers code.class instruction ≡ Strict count operation
       → (n : ℕ) (inner : Scope) → AreOperands context n inner are → IsEffect context bound inner operation are found.0 × EachInStm (IsBelow n) found.0
-  pub births : (instruction : Instruction) (made : Name) (are : List Typed) (exp : Exp) → ways.birth instruction made are ≡ Some exp → (count : ℕ) (operation : List Value → Reply (Option Value)) → meaning_of context.headers code.class instruction ≡ Strict count operation
+  pub births : (pc : ℕ) (instruction : Instruction) → Contains code.instructions (pc, instruction) → (made : Name) (are : List Typed) (exp : Exp) → ways.birth instruction made are ≡ Some exp → (count : ℕ) (operation : List Value → Reply (Option Value)) → meaning_of context.headers code.class instruction ≡ Strict count operation
       → (n : ℕ) (inner : Scope) → AreOperands context n inner are → IsBirth context inner made operation are exp × IsEntry context n inner (Of (Class made)) exp
-  pub falls : (names : Names) → AreNames context base most scope owner names → (n : ℕ) (inner : Scope) (stack : List Pending) → IsReady context base scope n inner stack → (rest : Instructions) → starts (pc_of rest) ≡ true → (statements : Stms) → ways.fall names n stack rest ≡ Some statements
+  pub falls : (names : Names) → AreNames context base most scope owner names → (n : ℕ) (inner : Scope) (stack : List Pending) → IsReady context base scope n inner stack → (rest : Instructions) → code_from (pc_of rest) code.instructions ≡ rest → starts (pc_of rest) ≡ true → (statements : Stms) → ways.fall names n stack rest ≡ Some statements
       → ShowsRest context NothingCaught (LeavesAlike context base most scope owner code entries) (AreNamed context most names) inner stack (past context.headers local_slots code starts rest) (run_then context inner bound statements (pure Normal))
-  pub leaves : (names : Names) → AreNames context base most scope owner names → (n : ℕ) (inner : Scope) (stack : List Pending) → IsReady context base scope n inner stack → (pc : ℕ) (instruction : Instruction) (rest : Instructions) → continues (sort_of instruction) (meaning_of context.headers code.class instruction) ≡ false
+  pub leaves : (names : Names) → AreNames context base most scope owner names → (n : ℕ) (inner : Scope) (stack : List Pending) → IsReady context base scope n inner stack → (pc : ℕ) (instruction : Instruction) (rest : Instructions) → Contains code.instructions (pc, instruction) → IsBehind code instruction rest
+      → continues (sort_of instruction) (meaning_of context.headers code.class instruction) ≡ false
       → (statements : Stms) → ways.leave names n stack ((pc, instruction) ∷ rest) ≡ Some statements
       → ShowsRest context NothingCaught (LeavesAlike context base most scope owner code entries) (AreNamed context most names) inner stack (block context.headers local_slots code starts ((pc, instruction) ∷ rest)) (run_then context inner bound statements (pure Normal))

@@ -21,7 +21,7 @@ ghost use Rattle.dj_blocks.specs.Blocks.{block};
 ghost use Rattle.dj_rebuilding.specs.Pending.{Atom, Pending, Typed};
 ghost use Rattle.dj_rebuilding.specs.Rest.{ShowsRest};
 ghost use Rattle.dj_rebuilt.specs.Rebuilding.{Names, Ways, rebuilt};
-ghost use Rattle.dj_rebuilt.specs.Located.{IsReady, AreNamed, AreNames, AllOwn, Entries, LeavesAlike, NothingCaught, WaysHold};
+ghost use Rattle.dj_rebuilt.specs.Located.{IsReady, AreNamed, AreNames, AllOwn, AllStandIn, Entries, LeavesAlike, NothingCaught, WaysHold};
 ghost use Rattle.dj_rebuilt.specs.Known.{AreStrings, constant_of, own_nodes};
 ghost use Rattle.dj_rebuilt.specs.Standing.{AreOperands, IsNoded, IsConstant, Within};
 ghost use Rattle.dj_rebuilt.specs.Alike.{RebuiltAlike};
@@ -44,7 +44,7 @@ pub fn narrowing_is_conversion()
 /// from locals whose values the variables have, for every way in which it ends. Control leaves by the same way, where the variables have what the locals have.
 pub fn blocks_are_rebuilt()
     ensures shows { (context : Context) (bound base most : ℕ) (scope : Scope) (owner : Var → ℕ) (code : Code) (starts : ℕ → Bool) (ways : Ways) (entries : Entries) → code.handlers ≡ [] → WaysHold context bound base most scope owner code starts ways entries
-        → (code_left : Instructions) → AllOwn base most scope owner ways code_left → (names : Names) → AreNames context base most scope owner names → (n : ℕ) (inner : Scope) (stack : List Pending) → IsReady context base scope n inner stack
+        → (code_left : Instructions) → AllStandIn code code_left → AllOwn base most scope owner ways code_left → (names : Names) → AreNames context base most scope owner names → (n : ℕ) (inner : Scope) (stack : List Pending) → IsReady context base scope n inner stack
         → (statements : Stms) → rebuilt context.headers code.class ways starts names n stack code_left ≡ Some statements
         → ShowsRest context NothingCaught (LeavesAlike context base most scope owner code entries) (AreNamed context most names) inner stack (block context.headers local_slots code starts code_left) (run_then context inner bound statements (pure Normal)) }
 {}
