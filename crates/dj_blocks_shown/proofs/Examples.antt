@@ -27,7 +27,8 @@ use Rattle.dj_vars.specs.Slots.{from_bottom, slot_tag, type_of_slot}
 use Rattle.dj_vars.specs.Naming.{Vars, Writes, HasType, at_start, by_write, AreVars, SaysReferences}
 use Rattle.dj_blocks_shown.specs.Leaving.{Parts, is_start, uncaught, Leaves}
 use Rattle.dj_blocks_shown.specs.Catching.{as_covered, none_left}
-use Rattle.dj_blocks_shown.specs.Composing.{IsBlockNode, KeepsSomehow, IsMadeOf}
+use Rattle.dj_blocks_shown.specs.Keeping.{Runs, KeepsSomehow}
+use Rattle.dj_blocks_shown.specs.Composing.{IsBlockNode, runs_of, IsMadeOf}
 
 -- ---- code that returns
 
@@ -155,11 +156,14 @@ suits = record {
         none has = let less = has.1 in omega arith
     no-monitor (suc number) other monitor there has = some-none other there
 
-keeps : KeepsSomehow graph graph
-keeps = record {
-  forth = λ limits. (limits, λ context scope suits state. inl refl);
-  back = λ limits. (limits, λ context scope suits state. inl refl);
+keeps : (runs : Runs) → KeepsSomehow runs graph graph
+keeps runs = record {
+  forth = λ limits. (limits, λ headers may arguments fit answers. inl refl);
+  back = λ limits. (limits, λ headers may arguments fit answers. inl refl);
 }
+
+abbrev empty_store : List Value → Store
+empty_store arguments = record { variables = λ variable. None; held = [] }
 
 module _ (headers : List Header) (members : List ClassMembers) (arguments : List Value) where
   abbrev context : Context
@@ -201,10 +205,10 @@ returning world members = record {
   after = graph;
   suits = suits;
   rebuilt = λ headers may arguments fit. record { nodes = block-node headers members arguments };
-  keeps = keeps;
+  start = empty_store;
+  keeps = keeps (runs_of world members parts body scope empty_store);
   node = node;
   tree = record { alone = refl; only = λ number. refl; uncaught = refl; free = refl; closed = λ label. refl };
-  start = λ arguments. record { variables = λ variable. None; held = [] };
   begins = λ headers may arguments fit. record { slots = λ slot variable e. some-none variable e; parameters = record { has = λ number slot e. some-none slot e }; free = refl };
   declared = λ headers may arguments fit answers turns. refl;
 }

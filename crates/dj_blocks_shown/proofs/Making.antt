@@ -25,7 +25,7 @@ use Rattle.dj_graph.specs.Flows as flows
 use Rattle.dj_graph.specs.Flows.{Flow, less_one, if_left, go}
 use Rattle.dj_graph.specs.Graphs.{Node, Graph, node_at}
 use Rattle.dj_graph.specs.GraphRuns.{local_variable, takes, run_tree, place_of, left, sent_on, sent_by, closed, around, gate, node_run, flow, Limits, graph_run, graph_show}
-use Rattle.dj_graph.specs.Keeping.{seldom, KeepsShows}
+use Rattle.dj_graph.specs.Keeping.{seldom}
 use Rattle.dj_graph.proofs.Gates.{gate-idle}
 use Rattle.dj_graph.proofs.Rising.{at-first, at-elsewhere, rises-tree, rises-flow}
 use Rattle.dj_bytecode.specs.Machine.{Locals, local_slots, code_from, steps, first_locals, bytecode_show}
@@ -39,7 +39,8 @@ use Rattle.dj_vars.specs.Slots.{slot_value}
 use Rattle.dj_vars.specs.Agreeing.{IsKept}
 use Rattle.dj_vars.proofs.Holding.{named-holds}
 use Rattle.dj_blocks_shown.specs.Leaving.{Parts, is_start, Meets, Leaves}
-use Rattle.dj_blocks_shown.specs.Composing.{ShowsBlocks, Seldom, IsTree, Begins, IsMadeOf, FewTurns, BodyShowsCode, TidiedShow, TidiedFew}
+use Rattle.dj_blocks_shown.specs.Keeping.{KeepsTurns}
+use Rattle.dj_blocks_shown.specs.Composing.{ShowsBlocks, Seldom, IsTree, Begins, runs_of, IsMadeOf, FewTurns, BodyShowsCode, TidiedShow, TidiedFew}
 use Rattle.dj_blocks_shown.proofs.Catching.{catchers_show}
 use Rattle.dj_blocks_shown.proofs.Composing.{cut-below, is-below-trans, rises-ended, composes-forth, composes-back}
 
@@ -226,11 +227,11 @@ module _ (world : List Header) (members : List ClassMembers) (parts : Parts) (bo
         (is-below-trans show (graph_show context made.scope made.after limits source) (shown ((run_tree context made.scope limits.turns First made.node.tree >>= ended context.result) source)) below
         (tree-below context made.scope made.after made.node made.tree limits.turns limits.each limits.entrances source begins.free))
 
-    few : KeepsShows made.before made.after → (bound times : ℕ) → Seldom headers parts bound code.instructions [] machine (λ number. times) → IsBelow (bytecode_show headers code arguments answers bound) (source_show headers members body arguments answers times)
+    few : KeepsTurns (runs_of world members parts body made.scope made.start) made.before made.after → (bound times : ℕ) → Seldom headers parts bound code.instructions [] machine (λ number. times) → IsBelow (bytecode_show headers code arguments answers bound) (source_show headers members body arguments answers times)
     few sharp bound times seldom_there =
         body-shows (seldom times bound) (bytecode_show headers code arguments answers bound)
         (is-below-trans (bytecode_show headers code arguments answers bound) (graph_show context made.scope made.before (seldom times bound) source) (graph_show context made.scope made.after (seldom times bound) source)
-        (graph-shows bound times seldom_there) (sharp.forth context made.scope made.suits times bound source))
+        (graph-shows bound times seldom_there) (sharp.forth times bound headers may arguments fit answers))
 
     forth : (bound : ℕ) → (turns : ℕ) × IsBelow (bytecode_show headers code arguments answers bound) (source_show headers members body arguments answers turns)
     forth bound =
@@ -239,7 +240,7 @@ module _ (world : List Header) (members : List ClassMembers) (parts : Parts) (bo
           body-shows kept.0 (bytecode_show headers code arguments answers bound)
               (is-below-trans (bytecode_show headers code arguments answers bound) (graph_show context made.scope made.before (seldom (suc bound) bound) source) (graph_show context made.scope made.after kept.0 source)
               (graph-shows bound (suc bound) (λ number start listed. entered_seldom headers local_slots code start bound code.instructions [] machine))
-              (kept.1 context made.scope made.suits source)),
+              (kept.1 headers may arguments fit answers)),
         )
 
     back : (turns : ℕ) → (enough : ℕ) × IsBelow (source_show headers members body arguments answers turns) (bytecode_show headers code arguments answers enough)
@@ -252,7 +253,7 @@ module _ (world : List Header) (members : List ClassMembers) (parts : Parts) (bo
           subst (λ show. IsBelow show (bytecode_show headers code arguments answers enough))
               (ap (λ run. shown (bind run (ended context.result))) (tree-run context made.scope made.after made.node made.tree turns 0 0 source begins.free) ∙ sym (made.declared headers may arguments fit answers turns))
               (is-below-trans (graph_show context made.scope made.after limits source) (graph_show context made.scope made.before more source) (bytecode_show headers code arguments answers enough)
-              ((made.keeps.back limits).1 context made.scope made.suits source)
+              ((made.keeps.back limits).1 headers may arguments fit answers)
               (subst (λ list. IsBelow (graph_show context made.scope made.before more source) (shown (steps headers local_slots code enough list [] machine))) made.parted.begins
               (composes-back world headers parts runs context.this (flow context made.scope made.before more.turns) (shows more.turns) context.result more.entrances 0 (λ number. more.each) [] machine (made.start arguments) meets begins.free))),
         )

@@ -24,8 +24,7 @@ use Rattle.dj_verify.specs.Verified.{IsTyped}
 use Rattle.dj_sound.specs.States.{IsStrict, RunsStrictly}
 use Rattle.dj_graph.specs.Flows.{Flow, go}
 use Rattle.dj_graph.specs.Graphs.{Node, Graph, node_at}
-use Rattle.dj_graph.specs.GraphRuns.{local_variable, run_tree, Limits, graph_show, Suits}
-use Rattle.dj_graph.specs.Keeping.{KeepsShows}
+use Rattle.dj_graph.specs.GraphRuns.{local_variable, run_tree, Suits}
 use Rattle.dj_bytecode.specs.Machine.{Locals, local_slots, code_from, steps, first_locals, bytecode_show}
 use Rattle.dj_bytecode.specs.SameShows.{MayRun, AreArgumentsOf, SameShows}
 use Rattle.dj_blocks.specs.Blocks.{block, entered}
@@ -35,6 +34,7 @@ use Rattle.dj_vars.specs.Parameters.{parameter_slots}
 use Rattle.dj_vars.specs.Naming.{AreVars, SaysReferences}
 use Rattle.dj_vars.specs.Agreeing.{parameter_variable, HasParameters}
 use Rattle.dj_blocks_shown.specs.Catching.{IsEven, AreCatchers}
+use Rattle.dj_blocks_shown.specs.Keeping.{Runs, KeepsSomehow, KeepsTurns}
 use Rattle.dj_blocks_shown.specs.Leaving.{Parts, is_start, Meets, Leaves, ShowsBlock}
 
 -- ---- flows
@@ -74,13 +74,6 @@ pub record IsTree (graph : Graph) (node : Node) : Type 0 where
   pub free : node.monitors ≡ []
   pub closed : (label : ℕ) → (all_ways node.tree).jumps label ≡ false
 
--- what is made of a graph shows what the graph shows, each side at some limits where the other has some; a loop over a state may need more turns
-pub record KeepsSomehow (before after : Graph) : Type 0 where
-  pub forth : (limits : Limits) → (more : Limits) × ((context : Context) (scope : Scope) → Suits before scope → (state : State Store)
-      → IsBelow (graph_show context scope before limits state) (graph_show context scope after more state))
-  pub back : (limits : Limits) → (more : Limits) × ((context : Context) (scope : Scope) → Suits before scope → (state : State Store)
-      → IsBelow (graph_show context scope after limits state) (graph_show context scope before more state))
-
 -- ---- the whole way
 
 -- a store as a graph's run begins: the variable of each slot that an argument is in at the start has it, each parameter has its argument, and no monitor is held
@@ -105,6 +98,10 @@ pub record AreParts (parts : Parts) : Type 0 where
   pub vars : AreVars parts.typed parts.starts parts.vars
   pub says : SaysReferences parts.typed
 
+-- the runs of the body of code, in this scope and from these stores
+abbrev pub runs_of : List Header → List ClassMembers → Parts → Body → Scope → (List Value → Store) → Runs
+runs_of world members parts body scope start = record { world = world; members = members; code = parts.typed.code; body = body; scope = scope; start = start }
+
 -- a body comes from code: a graph with a node for each block, steps that keep what it shows, the tree that they leave, and a body that shows what that tree shows
 pub record IsMadeOf (world : List Header) (members : List ClassMembers) (parts : Parts) (body : Body) : Type 0 where
   pub parted : AreParts parts
@@ -114,10 +111,10 @@ pub record IsMadeOf (world : List Header) (members : List ClassMembers) (parts :
   pub after : Graph
   pub suits : Suits before scope
   pub rebuilt : (headers : List Header) → MayRun world headers → (arguments : List Value) → AreArgumentsOf headers parts.typed.code arguments → IsRebuilt (context_of headers members body arguments) scope parts before
-  pub keeps : KeepsSomehow before after
+  pub start : List Value → Store
+  pub keeps : KeepsSomehow (runs_of world members parts body scope start) before after
   pub node : Node
   pub tree : IsTree after node
-  pub start : List Value → Store
   pub begins : (headers : List Header) → MayRun world headers → (arguments : List Value) → AreArgumentsOf headers parts.typed.code arguments → Begins parts arguments (start arguments)
   pub declared : (headers : List Header) → MayRun world headers → (arguments : List Value) → AreArgumentsOf headers parts.typed.code arguments → (answers : List Answer) (turns : ℕ)
       → source_show headers members body arguments answers turns
@@ -149,11 +146,11 @@ NeedsFewTurns world members parts body =
     → Seldom headers parts bound parts.typed.code.instructions [] (record { store = first_locals parts.typed.code.max_locals arguments; world = opening answers }) (λ number. times)
     → IsBelow (bytecode_show headers parts.typed.code arguments answers bound) (source_show headers members body arguments answers times)
 
--- so it is where what is made of the graph keeps its shows at the same limits
+-- so it is where what is made of the graph needs no more turns than the graph
 abbrev pub FewTurns : Type 0
 FewTurns =
     (world : List Header) (members : List ClassMembers) (parts : Parts) (body : Body) → parts.typed.code.instructions ≢ [] → IsStrict world parts.typed
-    → (made : IsMadeOf world members parts body) → KeepsShows made.before made.after → NeedsFewTurns world members parts body
+    → (made : IsMadeOf world members parts body) → KeepsTurns (runs_of world members parts body made.scope made.start) made.before made.after → NeedsFewTurns world members parts body
 
 -- the body shows what the code shows, in both directions
 abbrev pub BodyShowsCode : Type 0
@@ -178,7 +175,7 @@ TidiedShow =
 abbrev pub TidiedFew : Type 0
 TidiedFew =
     (world : List Header) (members : List ClassMembers) (parts : Parts) (body tidied : Body) → parts.typed.code.instructions ≢ [] → IsStrict world parts.typed
-    → (made : IsMadeOf world members parts body) → KeepsShows made.before made.after → IsTidied world members parts.typed.code body tidied → NeedsFewTurns world members parts tidied
+    → (made : IsMadeOf world members parts body) → KeepsTurns (runs_of world members parts body made.scope made.start) made.before made.after → IsTidied world members parts.typed.code body tidied → NeedsFewTurns world members parts tidied
 
 -- code that is read from a class file, with a table of frames, where its blocks start, and its variables, is in parts
 abbrev pub ReadCodeParted : Type 0
@@ -199,22 +196,3 @@ abbrev pub ArgumentsBegin : Type 0
 ArgumentsBegin =
     (world headers : List Header) (parts : Parts) → parts.typed.code.instructions ≢ [] → IsTyped (Laxly world) world parts.typed → AreParts parts
     → (arguments : List Value) → AreArgumentsOf headers parts.typed.code arguments → (store : Store) → HoldsArguments parts arguments store → Begins parts arguments store
-
--- limits that are no greater than others
-pub record AreLess (limits more : Limits) : Type 0 where
-  pub turns : limits.turns ≤ more.turns
-  pub each : limits.each ≤ more.each
-  pub entrances : limits.entrances ≤ more.entrances
-
--- a graph shows no less at greater limits
-abbrev pub GraphsGrow : Type 0
-GraphsGrow =
-    (context : Context) (scope : Scope) (graph : Graph) (limits more : Limits) → AreLess limits more → (state : State Store) → IsBelow (graph_show context scope graph limits state) (graph_show context scope graph more state)
-
--- so what keeps shows at equal limits keeps them somehow
-abbrev pub SharpIsEnough : Type 0
-SharpIsEnough = (before after : Graph) → KeepsShows before after → KeepsSomehow before after
-
--- and one thing after another does
-abbrev pub SomehowInTurn : Type 0
-SomehowInTurn = (first second third : Graph) → ((scope : Scope) → Suits first scope → Suits second scope) → KeepsSomehow first second → KeepsSomehow second third → KeepsSomehow first third

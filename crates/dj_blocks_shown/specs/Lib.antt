@@ -3,6 +3,7 @@ pub mod Leaving
 pub mod Catching
 pub mod Copies
 pub mod Walks
+pub mod Keeping
 pub mod Composing
 pub mod Rebuilding
 pub use Rattle.dj_vars.specs.Slots

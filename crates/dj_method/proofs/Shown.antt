@@ -7,7 +7,7 @@ use Rattle.dj_names.specs.declared.header.Header.{Header}
 use Rattle.dj_names.specs.declared.members.ClassMembers.{ClassMembers}
 use Rattle.dj_names.specs.Types.{JType, parameters_of}
 use Rattle.dj_syntax.specs.Trees.{Body, Stms}
-use Rattle.dj_values.specs.Values.{Value, Answer}
+use Rattle.dj_values.specs.Values.{Value, Answer, IsBelow}
 use Rattle.dj_values.specs.Fits.{is_static, this_of, behind_this}
 use Rattle.dj_values.specs.Outcomes.{State, opening, shown}
 use Rattle.dj_class.specs.Described.{MethodOf, ClassOf}
@@ -21,8 +21,8 @@ use Rattle.dj_places.specs.Constants.{Surroundings}
 use Rattle.dj_places.specs.Surroundings.{around_body}
 use Rattle.dj_declaring.specs.Bodies.{Writing}
 use Rattle.dj_graph.specs.Graphs.{Node, Graph, node_at}
-use Rattle.dj_graph.specs.GraphRuns.{run_tree, Suits}
-use Rattle.dj_graph.specs.Keeping.{KeepsShows}
+use Rattle.dj_graph.specs.GraphRuns.{run_tree, Limits, graph_show, Suits}
+use Rattle.dj_graph.specs.Keeping.{seldom}
 use Rattle.dj_graph.proofs.Rising.{at-first}
 use Rattle.dj_bytecode.specs.SameShows.{MayRun, AreArgumentsOf}
 use Rattle.dj_declaring.specs.Formed.{local_type}
@@ -33,12 +33,13 @@ use Rattle.dj_declaring.specs.Declaring.{declared_body}
 use Rattle.dj_declaring.proofs.DeclaredBodies.{declare_typed, declare_shows}
 use Rattle.dj_blocks_shown.specs.Leaving.{Parts}
 use Rattle.dj_blocks_shown.specs.Catching.{as_covered, none_left, Catches}
+use Rattle.dj_blocks_shown.specs.Keeping.{ShowsNoMore, KeepsTurns}
 use Rattle.dj_blocks_shown.specs.Composing.{IsBlockNode, IsMadeOf, NeedsFewTurns}
 use Rattle.dj_blocks_shown.proofs.Even.{blocks_even}
 use Rattle.dj_blocks_shown.proofs.Parting.{read_code_parted}
 use Rattle.dj_blocks_shown.proofs.Starting.{arguments_begin}
 use Rattle.dj_blocks_shown.proofs.Making.{few_turns, body_shows}
-use Rattle.dj_method.specs.Parts.{IsCut, method_scope, IsNodeOf, IsGraphOf, IsLeft, entry_of, method_body, IsDeclared}
+use Rattle.dj_method.specs.Parts.{IsCut, method_scope, IsNodeOf, IsGraphOf, IsLeft, entry_of, method_runs, method_body, IsDeclared}
 use Rattle.dj_method.specs.Shown.{MethodsAreShown, alone, alone_in, IsOnlyTree, OneBlockIsShown}
 use Rattle.dj_method.proofs.Ordering.{runs-in-order}
 use Rattle.dj_method.proofs.Entering.{some-is, none-some, entry-given, arguments-held}
@@ -84,7 +85,7 @@ suits-method method parts graph kinds free = record {
     none monitor has = let less = has.1 in omega arith
 
 module _ (world : List Header) (members : List ClassMembers) (class : ClassOf) (found : MethodOf) (writing : Writing) (method : Body) (parts : Parts) (before after : Graph) (own : ℕ) (tree : Stms)
-    (cut : IsCut world class found parts) (graphed : IsGraphOf world members method parts before) (left : IsLeft before after tree) (declared : IsDeclared world members writing method parts own tree) where
+    (cut : IsCut world class found parts) (graphed : IsGraphOf world members method parts before) (left : IsLeft (method_runs world members method parts) before after tree) (declared : IsDeclared world members writing method parts own tree) where
   abbrev body : Body
   body = method_body world members method parts own tree
 
@@ -104,6 +105,13 @@ module _ (world : List Header) (members : List ClassMembers) (class : ClassOf) (
         catchers = node.catchers headers may;
       })
 
+  -- what the runs of the method show, those of its body do
+  no-more : (graph : Graph) (limits : Limits) (other : Graph) (more : Limits) → ShowsNoMore (method_runs world members method parts) graph limits other more → ShowsNoMore (record (method_runs world members method parts) { body = body }) graph limits other more
+  no-more graph limits other more h headers may arguments fit answers =
+      let state : State Store = record { store = (method_runs world members method parts).start arguments; world = opening answers } in
+      subst (λ (context : Context). IsBelow (graph_show context (method_scope method parts) graph limits state) (graph_show context (method_scope method parts) other more state)) (sym (same-context headers members body method arguments head))
+      (h headers may arguments fit answers)
+
   pub method-made : IsMadeOf world members parts body
   method-made = record {
     parted = read_code_parted world class found parts cut.spells cut.verified cut.strict.rising cut.some cut.starts cut.rise cut.vars;
@@ -119,7 +127,10 @@ module _ (world : List Header) (members : List ClassMembers) (class : ClassOf) (
     after = after;
     suits = suits-method method parts before graphed.kinds graphed.free;
     rebuilt = λ headers may arguments fit. record { nodes = block-node headers may arguments fit };
-    keeps = left.keeps;
+    keeps = record {
+      forth = λ limits. let kept = left.keeps.forth limits in (kept.0, no-more before limits after kept.0 kept.1);
+      back = λ limits. let kept = left.keeps.back limits in (kept.0, no-more after limits before kept.0 kept.1);
+    };
     node = left.node;
     tree = left.alone;
     start = λ arguments. first_store parts.vars.kinds (this_of (is_static parts.typed.code.flags) arguments) (behind_this (is_static parts.typed.code.flags) arguments) (entry_of parts);
@@ -147,9 +158,13 @@ module _ (world : List Header) (members : List ClassMembers) (class : ClassOf) (
           ∙ ap (λ (list : Stms). shown ((run_tree context scope turns First list >>= ended context.result) (state_of parts arguments answers parts.typed.code.flags))) (sym left.is)
           ∙ ap (λ (context : Context). shown ((run_tree context scope turns First left.node.tree >>= ended context.result) (state_of parts arguments answers parts.typed.code.flags))) (sym (same-context headers members body method arguments head))
 
-  pub method-few : KeepsShows before after → NeedsFewTurns world members parts body
+  pub method-few : KeepsTurns (method_runs world members method parts) before after → NeedsFewTurns world members parts body
   unfolding method-made
-  method-few sharp = few_turns world members parts body cut.some cut.strict method-made sharp
+  method-few sharp =
+      few_turns world members parts body cut.some cut.strict method-made (record {
+        forth = λ times entrances. no-more before (seldom times entrances) after (seldom times entrances) (sharp.forth times entrances);
+        back = λ limits. let kept = sharp.back limits in (kept.0, no-more after limits before kept.0 kept.1);
+      })
 
 -- ---- the laws
 
@@ -196,9 +211,9 @@ module _ (world : List Header) (members : List ClassMembers) (method : Body) (pa
     };
   }
 
-  only-left : IsLeft (alone_in parts tree) (alone_in parts tree) tree
+  only-left : IsLeft (method_runs world members method parts) (alone_in parts tree) (alone_in parts tree) tree
   only-left = record {
-    keeps = record { forth = λ limits. (limits, λ context scope suits state. inl refl); back = λ limits. (limits, λ context scope suits state. inl refl) };
+    keeps = record { forth = λ limits. (limits, λ headers may arguments fit answers. inl refl); back = λ limits. (limits, λ headers may arguments fit answers. inl refl) };
     node = alone tree;
     alone = record { alone = refl; only = λ number. refl; uncaught = refl; free = refl; closed = only.closed };
     is = refl;

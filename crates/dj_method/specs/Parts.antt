@@ -7,7 +7,7 @@ use Rattle.dj_names.specs.MethodNames.{is_constructor}
 use Rattle.dj_names.specs.Types.{parameters_of}
 use Rattle.dj_syntax.specs.Trees.{Body, Stms}
 use Rattle.dj_values.specs.Values.{Value}
-use Rattle.dj_values.specs.Fits.{is_static}
+use Rattle.dj_values.specs.Fits.{is_static, this_of, behind_this}
 use Rattle.dj_class.specs.Described.{MethodOf, ClassOf}
 use Rattle.dj_code.specs.ReadCode.{SpellsCode}
 use Rattle.dj_loaded.specs.Loaded.{HasCore}
@@ -29,8 +29,10 @@ use Rattle.dj_vars.specs.Parameters.{parameter_slots}
 use Rattle.dj_blocks_shown.specs.Leaving.{Parts, ShowsBlock}
 use Rattle.dj_blocks_shown.specs.Catching.{AreCatchers}
 use Rattle.dj_blocks_shown.specs.Walks.{AreStarts, RangesEnd}
-use Rattle.dj_blocks_shown.specs.Composing.{IsTree, KeepsSomehow, IsBodyOfCode}
+use Rattle.dj_blocks_shown.specs.Keeping.{Runs, KeepsSomehow}
+use Rattle.dj_blocks_shown.specs.Composing.{IsTree, runs_of, IsBodyOfCode}
 use Rattle.dj_declaring.specs.declared.entry.Entry.{Entry}
+use Rattle.dj_declaring.specs.Entries.{first_store}
 use Rattle.dj_declaring.specs.Starting.{tree_scope}
 use Rattle.dj_declaring.specs.Declaring.{declared_body, IsReady}
 
@@ -69,9 +71,9 @@ pub record IsGraphOf (world : List Header) (members : List ClassMembers) (method
 
 -- ---- the tree
 
--- one tree is left of a graph, which no jump leaves, and what was done to the graph keeps what it shows
-pub record IsLeft (before after : Graph) (tree : Stms) : Type 0 where
-  pub keeps : KeepsSomehow before after
+-- one tree is left of a graph, which no jump leaves, and what was done to the graph keeps what it shows of the method
+pub record IsLeft (runs : Runs) (before after : Graph) (tree : Stms) : Type 0 where
+  pub keeps : KeepsSomehow runs before after
   pub node : Node
   pub alone : IsTree after node
   pub is : node.tree ≡ tree
@@ -81,6 +83,12 @@ pub record IsLeft (before after : Graph) (tree : Stms) : Type 0 where
 -- the variables that hold `this` and the parameters as the method begins
 abbrev pub entry_of : Parts → Entry
 entry_of parts = record { itself = if is_static parts.typed.code.flags then None else parts.vars.of 0 0; parameters = map (parts.vars.of 0) (parameter_slots parts.typed.code) }
+
+-- the runs of the method's graph: from the store in which the variables of `this` and of the parameters have the arguments
+abbrev pub method_runs : List Header → List ClassMembers → Body → Parts → Runs
+method_runs world members method parts =
+    runs_of world members parts method (method_scope method parts)
+    (λ arguments. first_store parts.vars.kinds (this_of (is_static parts.typed.code.flags) arguments) (behind_this (is_static parts.typed.code.flags) arguments) (entry_of parts))
 
 -- the body of a method with this head, a label that the tree lacks, and a tree
 abbrev pub method_body : List Header → List ClassMembers → Body → Parts → ℕ → Stms → Body

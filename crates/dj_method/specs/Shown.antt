@@ -9,25 +9,25 @@ use Rattle.dj_meaning.specs.Meaning.{context_of}
 use Rattle.dj_meaning.specs.Ways.{all_ways}
 use Rattle.dj_declaring.specs.Bodies.{Writing, IsTyped}
 use Rattle.dj_graph.specs.Graphs.{Node, Graph}
-use Rattle.dj_graph.specs.Keeping.{KeepsShows}
 use Rattle.dj_bytecode.specs.SameShows.{MayRun, AreArgumentsOf, SameShows}
+use Rattle.dj_blocks_shown.specs.Keeping.{KeepsTurns}
 use Rattle.dj_blocks_shown.specs.Leaving.{Parts, ShowsBlock}
 use Rattle.dj_blocks_shown.specs.Composing.{IsMadeOf, NeedsFewTurns}
-use Rattle.dj_method.specs.Parts.{IsCut, method_scope, IsGraphOf, IsLeft, method_body, IsDeclared}
+use Rattle.dj_method.specs.Parts.{IsCut, method_scope, IsGraphOf, IsLeft, method_runs, method_body, IsDeclared}
 
--- the body comes from the code, is typed, and shows what the code shows; it needs few turns, where what was done to the graph keeps its shows at the same limits
-pub record IsDone (world : List Header) (members : List ClassMembers) (parts : Parts) (before after : Graph) (body : Body) : Type 0 where
+-- the body comes from the code, is typed, and shows what the code shows; it needs few turns, where what was done to the graph needs no more
+pub record IsDone (world : List Header) (members : List ClassMembers) (method : Body) (parts : Parts) (before after : Graph) (body : Body) : Type 0 where
   pub made : IsMadeOf world members parts body
   pub typed : IsTyped world members body
   pub same : SameShows world members parts.typed.code body
-  pub turns : KeepsShows before after → NeedsFewTurns world members parts body
+  pub turns : KeepsTurns (method_runs world members method parts) before after → NeedsFewTurns world members parts body
 
 -- where each part has done its share
 abbrev pub MethodsAreShown : Type 0
 MethodsAreShown =
     (world : List Header) (members : List ClassMembers) (class : ClassOf) (found : MethodOf) (writing : Writing) (method : Body) (parts : Parts) (before after : Graph) (own : ℕ) (tree : Stms)
-    → IsCut world class found parts → IsGraphOf world members method parts before → IsLeft before after tree → IsDeclared world members writing method parts own tree
-    → IsDone world members parts before after (method_body world members method parts own tree)
+    → IsCut world class found parts → IsGraphOf world members method parts before → IsLeft (method_runs world members method parts) before after tree → IsDeclared world members writing method parts own tree
+    → IsDone world members method parts before after (method_body world members method parts own tree)
 
 -- ---- one block
 
@@ -51,4 +51,4 @@ abbrev pub OneBlockIsShown : Type 0
 OneBlockIsShown =
     (world : List Header) (members : List ClassMembers) (class : ClassOf) (found : MethodOf) (writing : Writing) (method : Body) (parts : Parts) (own : ℕ) (tree : Stms)
     → IsCut world class found parts → IsOnlyTree world members method parts tree → IsDeclared world members writing method parts own tree
-    → IsDone world members parts (alone_in parts tree) (alone_in parts tree) (method_body world members method parts own tree)
+    → IsDone world members method parts (alone_in parts tree) (alone_in parts tree) (method_body world members method parts own tree)
