@@ -27,7 +27,8 @@ use Rattle.dj_blocks_formed.specs.Ruled.{IsRuled, AreRuledOperands}
 use Rattle.dj_blocks_formed.proofs.Blocks.{made-if, both-are}
 use Rattle.dj_member_nodes.specs.Going.{all_fit}
 use Rattle.dj_member_nodes.specs.Nodes.{given_to, object_call, is_this, is_above, super_call, special_call}
-use Rattle.dj_member_nodes.specs.Named.{MethodIsNamed, RootsAreNamed}
+use Rattle.dj_member_nodes.specs.Named as behind_super
+use Rattle.dj_member_nodes.specs.Named.{MethodIsNamed, RootsAreNamed, IsBehindSuper}
 use Rattle.dj_member_nodes.proofs.Calls.{IsCall, object-called, super-called-at}
 
 -- `this` may stand where it keeps the rules
@@ -61,7 +62,7 @@ same-class : (first second : Name) → Class first ≡ Class second → first �
 same-class first second e = let some : Some first ≡ Some second = ap class_of e in cc
 
 module _ (site : Site) (n : ℕ) (scope : Scope) (roots : RootsAreNamed site) (method : MethodRef) (named : MethodIsNamed site method)
-    (concrete : (above : Option Name) → means_abstract site above method.name (Some (exact (parameters_of method.descriptor))) ≡ false) where
+    (concrete : (above : Option Name) → IsBehindSuper site method above → means_abstract site above method.name (Some (exact (parameters_of method.descriptor))) ≡ false) where
   abbrev Called : Exp → Type 0
   Called exp = IsCall site n scope (result_of method.descriptor) exp
 
@@ -95,6 +96,7 @@ module _ (site : Site) (n : ℕ) (scope : Scope) (roots : RootsAreNamed site) (m
     owner : Name
     super : has_super site above ≡ true
     meant : of_super site.headers site.members site.class above method.name (exact (parameters_of method.descriptor)) ≡ Some (asked_of Special (Class owner) method)
+    stands : IsBehindSuper site method above
 
   -- behind `super` by either way
   super-called : is_constructor method.name ≡ false → (is_above (constants_of site) method ≡ true → IsSuper None) → (is_above (constants_of site) method ≡ false → (interface : Name) → class_of method.owner ≡ Some interface → IsSuper (Some interface))
@@ -121,12 +123,12 @@ module _ (site : Site) (n : ℕ) (scope : Scope) (roots : RootsAreNamed site) (m
       by true at f =
           let one = class at in
           let same : SuperCall None method.name (rest (superclass_in (header_of site.headers site.class))) ≡ exp = cc in
-          subst Called same (super-called-at site n scope method None one.owner one.super (this-there site n scope object.0 object.1 parts.0 h.0) one.meant (concrete None) named plain_name are parts.1 h.1)
+          subst Called same (super-called-at site n scope method None one.owner one.super (this-there site n scope object.0 object.1 parts.0 h.0) one.meant (concrete None one.stands) named plain_name are parts.1 h.1)
       by false at f =
           let b = both-are (class_of method.owner) (λ interface. Some (SuperCall (Some interface) method.name (rest (Some interface)))) exp f in
           let one = interface at b.one b.is in
           let same : SuperCall (Some b.one) method.name (rest (Some b.one)) ≡ exp = (let some = b.then_is in cc) in
-          subst Called same (super-called-at site n scope method (Some b.one) one.owner one.super (this-there site n scope object.0 object.1 parts.0 h.0) one.meant (concrete (Some b.one)) named plain_name are parts.1 h.1)
+          subst Called same (super-called-at site n scope method (Some b.one) one.owner one.super (this-there site n scope object.0 object.1 parts.0 h.0) one.meant (concrete (Some b.one) one.stands) named plain_name are parts.1 h.1)
 
   abbrev by_owner : Bool → List Typed → Option Exp
   by_owner test are = if test then object_call (constants_of site) method are else super_call (constants_of site) method are
@@ -158,7 +160,7 @@ module _ (site : Site) (n : ℕ) (scope : Scope) (roots : RootsAreNamed site) (m
           let same = same-class site.class is.above (sym owner ∙ sym (roots.own method owner) ∙ is.owner) in
           absurd (roots.above (is.superclass ∙ ap Some (sym same)))
       by false at f =
-          super-called is.plain (λ above. record { owner = is.above; super = ap not is.in_class; meant = is.meant })
+          super-called is.plain (λ above. record { owner = is.above; super = ap not is.in_class; meant = is.meant; stands = behind_super.class is.in_class is.superclass is.owner })
           (λ other interface named_so. absurd (true≢false (sym (above-looks is.in_class is.above is.superclass is.owner) ∙ other))) are exp f h
   special-called receiver (lawful_interface is) are exp e h = by (is_type method.owner (Class site.class)) refl (named-plainly is.plain are exp e)
     where
@@ -185,7 +187,7 @@ module _ (site : Site) (n : ℕ) (scope : Scope) (roots : RootsAreNamed site) (m
           super-called is.plain
           (λ above. let looks = looks-above above in
           let same = same-class looks.above is.interface (sym looks.owner ∙ is.own ∙ is.owner) in
-          record { owner = is.interface; super = ap not looks.in_class; meant = behind (superclass_in (header_of site.headers site.class)) refl (looks.superclass ∙ ap Some same) })
+          record { owner = is.interface; super = ap not looks.in_class; meant = behind (superclass_in (header_of site.headers site.class)) refl (looks.superclass ∙ ap Some same); stands = behind_super.class looks.in_class looks.superclass looks.owner })
           (λ other interface named_so.
           let same : is.interface ≡ interface = (let some : Some is.interface ≡ Some interface = sym (ap class_of is.owner) ∙ named_so in cc) in
-          subst (λ one. IsSuper (Some one)) same (record { owner = is.interface; super = says; meant = is.meant })) are exp f h
+          subst (λ one. IsSuper (Some one)) same (record { owner = is.interface; super = says; meant = is.meant; stands = behind_super.interface is.owner is.listed })) are exp f h

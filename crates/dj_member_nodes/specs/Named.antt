@@ -8,7 +8,7 @@ use Rattle.std.specs.Prelude.{codes}
 use Rattle.std.specs.List.{list_any}
 use Rattle.dj_kinds.specs.Search.{header_of, superclass_in, interfaces_of}
 use Rattle.dj_values.specs.Fits.{throwable_name}
-use Rattle.dj_values.specs.Deciding.{is_name}
+use Rattle.dj_values.specs.Deciding.{is_name, is_interface}
 use Rattle.dj_bytecode.specs.Objects.{special_owner}
 use Rattle.dj_instructions.specs.Instructions.{FieldRef, MethodRef, Instruction}
 use Rattle.dj_instructions.specs.Instructions as op
@@ -99,10 +99,15 @@ pub record RootsAreNamed (site : Site) : Type 0 where
   pub listed : list_any (λ name. is_name name site.class) (interfaces_of site.headers site.class) ≡ false
   pub own : (method : MethodRef) → method.owner ≡ Class site.class → special_owner site.headers site.class method ≡ method.owner
 
+-- the class above, or the interface that is named, behind whose `super` a method is called
+pub data IsBehindSuper (site : Site) (method : MethodRef) : Option Name → Type 0 where
+  class : {above : Name} → is_interface site.headers site.class ≡ false → superclass_in (header_of site.headers site.class) ≡ Some above → special_owner site.headers site.class method ≡ Class above → IsBehindSuper site method None
+  interface : {named : Name} → method.owner ≡ Class named → list_any (λ name. is_name name named) (interfaces_of site.headers site.class) ≡ true → IsBehindSuper site method (Some named)
+
 -- what the causes give of an instruction at an offset, given what the receivers of calls are: its member, no abstract one behind `super`, and its names;
 -- a constructor is called on an object that `new` made, as the call of another constructor on `this` isn't rebuilt so
 pub record IsAllowed (site : Site) (receivers : ℕ → Receiver) (pc : ℕ) (instruction : Instruction) : Type 0 where
   pub member : HasMember site.headers site.members site.class (may_assign site) (receivers pc) instruction
-  pub concrete : (method : MethodRef) → instruction ≡ op.InvokeSpecial method → (above : Option Name) → means_abstract site above method.name (Some (exact (parameters_of method.descriptor))) ≡ false
+  pub concrete : (method : MethodRef) → instruction ≡ op.InvokeSpecial method → (above : Option Name) → IsBehindSuper site method above → means_abstract site above method.name (Some (exact (parameters_of method.descriptor))) ≡ false
   pub born : (method : MethodRef) → instruction ≡ op.InvokeSpecial method → is_constructor method.name ≡ true → receivers pc ≡ Made
   pub named : IsNamed site instruction
