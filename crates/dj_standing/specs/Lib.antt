@@ -1,0 +1,2 @@
+-- What is asked of code, and the laws.
+pub mod Standing
