@@ -24,7 +24,7 @@ use Rattle.dj_starts.specs.Starts.{CodeAsks, BeginsBehind}
 use Rattle.dj_bytecode.specs.Machine.{code_from}
 use Rattle.dj_verify.specs.Rules.{Place}
 use Rattle.dj_verify.specs.Table.{flow_behind, AreFrames}
-use Rattle.dj_rebuildable.specs.Walking.{pushes_atom}
+use Rattle.dj_rebuildable.specs.Walking.{atoms_behind}
 use Rattle.dj_rebuildable.proofs.Strict.{many-arguments}
 use Rattle.dj_blocks_shown.proofs.Walking.{drop-next, at-least, rising-from}
 use Rattle.dj_standing.specs.Standing.{pushed_before}
@@ -123,7 +123,7 @@ role_at before (first ∷ rest) (suc place) = role_at (role_of first.1) rest pla
 abbrev pub pushed_at : ℕ → Instructions → ℕ → ℕ
 pushed_at count [] place = count
 pushed_at count (first ∷ rest) zero = count
-pushed_at count (first ∷ rest) (suc place) = pushed_at (if pushes_atom first.1 then suc count else 0) rest place
+pushed_at count (first ∷ rest) (suc place) = pushed_at (atoms_behind first.1 count) rest place
 
 role-first : (before : Role) (list : Instructions) → role_at before list zero ≡ before
 role-first before [] = refl
@@ -139,21 +139,21 @@ pushed-first : (count : ℕ) (list : Instructions) → pushed_at count list zero
 pushed-first count [] = refl
 pushed-first count (first ∷ rest) = refl
 
-pub pushed-next : (count : ℕ) (list : Instructions) (place : ℕ) (first : ℕ × Instruction) (rest : Instructions) → drop place list ≡ first ∷ rest → pushed_at count list (suc place) ≡ (if pushes_atom first.1 then suc (pushed_at count list place) else 0)
+pub pushed-next : (count : ℕ) (list : Instructions) (place : ℕ) (first : ℕ × Instruction) (rest : Instructions) → drop place list ≡ first ∷ rest → pushed_at count list (suc place) ≡ atoms_behind first.1 (pushed_at count list place)
 pushed-next count [] zero first rest e = nothing-is first rest e
 pushed-next count [] (suc place) first rest e = nothing-is first rest e
-pushed-next count (one ∷ more) zero first rest e = pushed-first (if pushes_atom one.1 then suc count else 0) more ∙ ap (λ (at : ℕ × Instruction). if pushes_atom at.1 then suc count else 0) (head-is one first more rest e)
-pushed-next count (one ∷ more) (suc place) first rest e = pushed-next (if pushes_atom one.1 then suc count else 0) more place first rest e
+pushed-next count (one ∷ more) zero first rest e = pushed-first (atoms_behind one.1 count) more ∙ ap (λ (at : ℕ × Instruction). atoms_behind at.1 count) (head-is one first more rest e)
+pushed-next count (one ∷ more) (suc place) first rest e = pushed-next (atoms_behind one.1 count) more place first rest e
 
 pushed-from : (count : ℕ) (list : Instructions) (least place : ℕ) (first : ℕ × Instruction) (rest : Instructions) → IsRisingFrom least list → drop place list ≡ first ∷ rest → pushed_before count list first.0 ≡ pushed_at count list place
 pushed-from count [] least zero first rest rising e = nothing-is first rest e
 pushed-from count [] least (suc place) first rest rising e = nothing-is first rest e
 pushed-from count (one ∷ more) least zero first rest rising e =
-    ap (λ (test : Bool). if test then count else pushed_before (if pushes_atom one.1 then suc count else 0) more first.0) (eq-eqb one.0 first.0 (ap (λ (at : ℕ × Instruction). at.0) (head-is one first more rest e)))
+    ap (λ (test : Bool). if test then count else pushed_before (atoms_behind one.1 count) more first.0) (eq-eqb one.0 first.0 (ap (λ (at : ℕ × Instruction). at.0) (head-is one first more rest e)))
 pushed-from count (one ∷ more) least (suc place) first rest rising e =
     let above = at-least first rest more (one.0 + 1) place rising.1 e in
-    ap (λ (test : Bool). if test then count else pushed_before (if pushes_atom one.1 then suc count else 0) more first.0) (ne_eqb one.0 first.0 (λ same. omega (arith, same, above)))
-    ∙ pushed-from (if pushes_atom one.1 then suc count else 0) more (one.0 + 1) place first rest rising.1 e
+    ap (λ (test : Bool). if test then count else pushed_before (atoms_behind one.1 count) more first.0) (ne_eqb one.0 first.0 (λ same. omega (arith, same, above)))
+    ∙ pushed-from (atoms_behind one.1 count) more (one.0 + 1) place first rest rising.1 e
 
 pub pushed-is : (list : Instructions) (place : ℕ) (first : ℕ × Instruction) (rest : Instructions) → IsRising list → drop place list ≡ first ∷ rest → pushed_before 0 list first.0 ≡ pushed_at 0 list place
 pushed-is list place first rest rising e = pushed-from 0 list 0 place first rest (rising-from list rising) e

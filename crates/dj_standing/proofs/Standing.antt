@@ -23,11 +23,11 @@ use Rattle.dj_verify.specs.Rules.{falls, given}
 use Rattle.dj_bytecode.specs.Machine.{pc_of}
 use Rattle.dj_bytecode.specs.Meanings.{meaning_of, arguments_of}
 use Rattle.dj_sound.specs.States.{table_of}
-use Rattle.dj_rebuilt.specs.Sorts.{sort_of}
+use Rattle.dj_rebuilt.specs.Sorts.{Sort, Loading, Storing, Counting, Moving, Doubling, Dropping, Making, Calling, Throwing, Idle, Other, sort_of}
 use Rattle.dj_rebuilt.specs.Rebuilding.{continues}
 use Rattle.dj_rebuilt.proofs.Behind.{goes-behind}
 use Rattle.dj_rebuildable.specs.Beside.{is_open}
-use Rattle.dj_rebuildable.specs.Walking.{pushes_atom, makes, atoms_behind, Compares, ConstructsThis, IsReachedAt, MayStandInBirth, MayStand, AllMayStand}
+use Rattle.dj_rebuildable.specs.Walking.{pushes_atom, makes, atoms_kept, atoms_behind, Compares, ConstructsThis, IsReachedAt, MayStandInBirth, MayStand, AllMayStand}
 use Rattle.dj_blocks_shown.specs.Leaving.{is_start}
 use Rattle.dj_blocks_shown.specs.Walks.{AreStarts, LeadsToBlocks}
 use Rattle.dj_blocks_shown.proofs.Walking.{drop-next, starts-here, rising-from, listed-at, falls-to, leads-at}
@@ -53,6 +53,27 @@ started (first ∷ rest) pc e = by (first == pc) refl e (started rest pc)
     by : (test : Bool) → first == pc ≡ test → (test || is_start rest pc) ≡ true → (is_start rest pc ≡ true → Contains rest pc) → Contains (first ∷ rest) pc
     by true same e more = (0, omega arith, eqb-true first pc same)
     by false same e more = later (more e)
+
+-- more atoms stay more
+kept-more : (sort : Sort) (few many : ℕ) → few ≤ many → atoms_kept sort few ≤ atoms_kept sort many
+kept-more (Loading of slot) few many less = omega arith
+kept-more (Storing of slot) few many less = omega arith
+kept-more (Counting slot amount) few many less = omega arith
+kept-more (Moving forms) few many less = omega arith
+kept-more Doubling few many less = omega arith
+kept-more (Dropping two) few many less = omega arith
+kept-more (Making class) few many less = omega arith
+kept-more (Calling arguments) few many less = omega arith
+kept-more Throwing few many less = omega arith
+kept-more Idle few many less = less
+kept-more Other few many less = omega arith
+
+more-behind : (instruction : Instruction) (few many : ℕ) → few ≤ many → atoms_behind instruction few ≤ atoms_behind instruction many
+more-behind instruction few many less = by (pushes_atom instruction)
+  where
+    by : (test : Bool) → (if test then suc few else atoms_kept (sort_of instruction) few) ≤ (if test then suc many else atoms_kept (sort_of instruction) many)
+    by true = omega (arith, less)
+    by false = kept-more (sort_of instruction) few many less
 
 module _ (world : List Header) (typed : Typed) (plain : IsPlain world typed) (starts : List ℕ) (are : AreStarts typed starts) where
   abbrev code : Code
@@ -244,7 +265,7 @@ module _ (world : List Header) (typed : Typed) (plain : IsPlain world typed) (st
       reached = reached-next on;
       fine = record { locals = left.locals; stack = all-wider ⊥ ⊥ (Left place first (next ∷ more) frame just_made atoms walks) Any (λ none. none) (λ start is. tt) next_frame.stack left.stack };
       made = λ begun is. new-makes first.1 (sym (role-next role.Plain list place first (next ∷ more) walks.at.0) ∙ is);
-      pushed = λ begun. most (left-open place first (next ∷ more) frame just_made atoms walks begun) (pushes_atom first.1) refl (pushed-next 0 list place first (next ∷ more) walks.at.0);
+      pushed = λ begun. most (left-open place first (next ∷ more) frame just_made atoms walks begun) (pushed-next 0 list place first (next ∷ more) walks.at.0);
     }
       where
         other : (frame : Working) × (slice_get (table_of typed) (suc place) ≡ Some frame)
@@ -253,10 +274,9 @@ module _ (world : List Header) (typed : Typed) (plain : IsPlain world typed) (st
         left : IsFine ⊥ (Left place first (next ∷ more) frame just_made atoms walks) next_frame
         left = left-fine place first (next ∷ more) frame just_made atoms walks
 
-        most : Left place first (next ∷ more) frame just_made atoms walks 0 → (test : Bool) → pushes_atom first.1 ≡ test → pushed_at 0 list (suc place) ≡ (if test then suc (pushed_at 0 list place) else 0) → pushed_at 0 list (suc place) ≤ (if test then suc atoms else 0)
-        most (inl begun) true is e = let few = walks.pushed begun in omega (arith, few, e)
-        most (inr made) true is e = never (sym (ap pushes_atom made.1) ∙ is)
-        most left false is e = omega (arith, e)
+        most : Left place first (next ∷ more) frame just_made atoms walks 0 → pushed_at 0 list (suc place) ≡ atoms_behind first.1 (pushed_at 0 list place) → pushed_at 0 list (suc place) ≤ atoms_behind first.1 atoms
+        most (inl begun) e = let few = more-behind first.1 (pushed_at 0 list place) atoms (walks.pushed begun) in omega (arith, few, e)
+        most (inr made) e = let none = e ∙ ap (λ instruction. atoms_behind instruction (pushed_at 0 list place)) made.1 in omega (arith, none)
 
   walk : (rest : Instructions) (place : ℕ) (first : ℕ × Instruction) (frame : Working) (just_made : Bool) (atoms : ℕ) → Walks place first rest frame just_made atoms → AllMayStand world code (IsReachedAt typed) (is_start starts) just_made atoms frame (first ∷ rest)
   walk [] place first frame just_made atoms walks =

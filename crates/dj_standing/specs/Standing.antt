@@ -1,5 +1,5 @@
 -- When each instruction of a block may stand where it does: in verified code without floats, whose births can be written.
-use Rattle.std.specs.Prelude.{◌≡◌, ℕ, suc, ◌<◌, ◌≤◌, ◌==◌, true, false, if◌then◌else◌, List, [], ◌∷◌, Contains, drop, Some, slice_get}
+use Rattle.std.specs.Prelude.{◌≡◌, ℕ, ◌<◌, ◌≤◌, ◌==◌, true, false, if◌then◌else◌, List, [], ◌∷◌, Contains, drop, Some, slice_get}
 use Rattle.dj_names.specs.declared.header.Header.{Header}
 use Rattle.dj_instructions.specs.Instructions.{Instruction, Instructions, IsRising}
 use Rattle.dj_frames.specs.Frames.{has_unborn_this}
@@ -16,16 +16,16 @@ use Rattle.dj_bytecode.specs.Machine.{pc_of}
 use Rattle.dj_bytecode.specs.Meanings.{meaning_of}
 use Rattle.dj_sound.specs.States.{table_of, IsStrict}
 use Rattle.dj_rebuildable.specs.Beside.{is_open}
-use Rattle.dj_rebuildable.specs.Walking.{moves_run_kind, is_run, pushes_atom, Compares, IsReachedAt, AllMayStand}
+use Rattle.dj_rebuildable.specs.Walking.{moves_run_kind, is_run, atoms_behind, Compares, IsReachedAt, AllMayStand}
 use Rattle.dj_blocks_shown.specs.Leaving.{is_start}
 use Rattle.dj_blocks_shown.specs.Walks.{AreStarts}
 
 -- ---- code
 
--- how many constants and loads stand right before the instruction at an offset, where so many stand before these
+-- how many constants and loads stand right before the instruction at an offset, but for what does nothing, where so many stand before these
 abbrev pub pushed_before : ℕ → Instructions → ℕ → ℕ
 pushed_before count [] pc = count
-pushed_before count (first ∷ rest) pc = if first.0 == pc then count else pushed_before (if pushes_atom first.1 then suc count else 0) rest pc
+pushed_before count (first ∷ rest) pc = if first.0 == pc then count else pushed_before (atoms_behind first.1 count) rest pc
 
 -- the birth that begins with a `new` ends at an offset and can be written as one expression; where it compares longs, both are constants or loads
 pub record IsPlainly (typed : Typed) (start end : ℕ) : Type 0 where
