@@ -1,5 +1,5 @@
 -- What instructions are in a birth, and what their works are.
-use Rattle.std.proofs.Common.{◌≡◌, ◌≢◌, ℕ, Bool, true, false, List, [], ◌∷◌, Contains, Option, Some, None, refl, sym, ap, ◌∙◌, subst, arith}
+use Rattle.std.proofs.Common.{◌≡◌, ◌≢◌, ℕ, Bool, true, false, List, [], ◌∷◌, Contains, Option, Some, None, refl, sym, ◌∙◌, subst, arith}
 use Rattle.std.specs.Prelude.{if◌then◌else◌, is_none}
 use Rattle.dj_names.specs.declared.header.Header.{Header}
 use Rattle.dj_names.specs.Headers.{Name}
@@ -20,14 +20,13 @@ use Rattle.dj_code.specs.Targets.{targets_of}
 use Rattle.dj_effects.specs.Works.{Of, Work, Plain, Moves, Loads, Stores, Counts, Makes, Bears, Elements, Sets, Supers, Leaves, Never}
 use Rattle.dj_effects.specs.Spelled.{is_spelled, is_kind}
 use Rattle.dj_effects.specs.Rows.{number_tag, kind_of, birth, super_call, of_number, operands, read, write, leave, row, work}
-use Rattle.dj_starts.specs.declared.roles.Role.{Role}
 use Rattle.dj_starts.specs.declared.roles.Role.TheVariants as role
-use Rattle.dj_starts.specs.Births.{role_of, role_of_call}
-use Rattle.dj_starts.specs.Control.{control_of, control_of_calc, divides, falls_through, ends_block}
+use Rattle.dj_starts.specs.Births.{role_of}
+use Rattle.dj_starts.specs.Control.{control_of, control_of_calc, divides, ends_block}
 use Rattle.dj_bytecode.specs.Meanings.{meaning_of}
 use Rattle.dj_rebuilt.specs.Sorts.{sort_of}
 use Rattle.dj_rebuilt.specs.Rebuilding.{continues}
-use Rattle.dj_rebuildable.specs.Walking.{makes, pushes_atom}
+use Rattle.dj_rebuildable.specs.Walking.{makes}
 use Rattle.dj_exits.proofs.Ending.{IsExit, by_goto, by_return, by_value, by_throw, by_zero, by_ints, by_refs, by_null, by_table, by_lookup, ends}
 
 pub never : {P : Type 0} → false ≡ true → P

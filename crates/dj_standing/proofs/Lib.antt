@@ -3,3 +3,4 @@ pub mod Exits
 pub mod Places
 pub mod Open
 pub mod Standing
+mod Examples

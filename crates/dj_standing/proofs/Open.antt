@@ -1,30 +1,27 @@
 -- Births that have begun: at each instruction that control reaches an object that is unborn stands in its own birth, which ends there or behind it.
-use Rattle.std.proofs.Common.{◌≡◌, ◌≢◌, ℕ, zero, suc, ◌+◌, ◌<◌, ◌≤◌, ◌==◌, Bool, true, false, List, [], ◌∷◌, ◌++◌, map, drop, length, All, Contains, Option, Some, None, IsTrue, IsSome, IsSomeAnd, IfSome, ◌⊎◌, inl, inr, refl, sym, ap, ◌∙◌, subst, arith}
+use Rattle.std.proofs.Common.{◌≡◌, ◌≢◌, ℕ, zero, suc, ◌+◌, ◌<◌, ◌≤◌, ◌==◌, Bool, true, false, List, [], ◌∷◌, ◌++◌, map, drop, All, Contains, Option, Some, None, IsSome, IsSomeAnd, IfSome, ◌⊎◌, inl, inr, refl, sym, ap, ◌∙◌, subst, arith}
 use Rattle.std.specs.Prelude.{if◌then◌else◌, slice_get, is_none, option_map}
 use Rattle.std.proofs.lemmas.Bool.{cases_order, eqb-true}
 use Rattle.std.proofs.lemmas.Bool.Decides.{nat_tests}
 use Rattle.std.proofs.lemmas.List.Elements.{All-contains, Contains-append_cases, Contains-append_right}
 use Rattle.dj_names.specs.declared.header.Header.{Header}
 use Rattle.dj_names.specs.Headers.{Name}
-use Rattle.dj_names.specs.Types.{JType, Class}
-use Rattle.dj_instructions.specs.declared.kinds.Kind.{Kind}
+use Rattle.dj_names.specs.Types.{JType}
 use Rattle.dj_instructions.specs.Instructions.{Instruction, Instructions, IsRising, MethodRef, instruction_at}
 use Rattle.dj_instructions.specs.Instructions as op
-use Rattle.dj_frames.specs.Frames.{Tag, Frame, has_unborn_this}
+use Rattle.dj_frames.specs.Frames.{Frame, has_unborn_this}
 use Rattle.dj_stack_map.specs.StackMap.{IsNewAt}
 use Rattle.dj_code.specs.declared.method_code.Handler.{Handler}
 use Rattle.dj_code.specs.MethodCode.{Code, Typed}
-use Rattle.dj_code.specs.Targets.{IsStart, targets_of}
-use Rattle.dj_tags.specs.Goes.{Assignability, Working, top_down, FrameGoes}
+use Rattle.dj_code.specs.Targets.{targets_of}
+use Rattle.dj_tags.specs.Goes.{Working, top_down, FrameGoes}
 use Rattle.dj_tags.specs.Laxly.{Strictly}
-use Rattle.dj_effects.specs.Works.{Work, Makes, Stores}
 use Rattle.dj_effects.specs.Rows.{work}
 use Rattle.dj_effects.specs.Operands.{HasOperands}
 use Rattle.dj_effects.specs.Effects.{or_top, effect}
 use Rattle.dj_starts.specs.declared.ways.Edge.{Edge}
-use Rattle.dj_starts.specs.declared.roles.Role.{Role}
 use Rattle.dj_starts.specs.declared.roles.Role.TheVariants as role
-use Rattle.dj_starts.specs.Births.{role_of, first_role, constructed_by, ConstructsFirst, Meets, IsAllowed, IsFree, IsBound, IsWritten, IsOnlyCall}
+use Rattle.dj_starts.specs.Births.{role_of, first_role, constructed_by, ConstructsFirst, Meets, IsAllowed, IsFree, IsBound}
 use Rattle.dj_starts.specs.Control.{control_of, falls_through, can_throw}
 use Rattle.dj_starts.specs.Edges as ways
 use Rattle.dj_starts.specs.Edges.{from_pc, first_pc, fallen_to, plain, thrown, covers, caught_edges, thrown_edges, first_edges, edges, Reaches, along}
@@ -32,11 +29,11 @@ use Rattle.dj_starts.specs.Starts.{IsGiven, TableAsks, EndsBlock, BeginsBehind, 
 use Rattle.dj_verify.specs.Rules as rules_of
 use Rattle.dj_verify.specs.Rules.{padded, frame_in, entry, given, falls, effect_at, HandlerTakes, Covers, caught_class, thrown_frame, FrameKeeps}
 use Rattle.dj_verify.specs.declared.rule.Rule.TheVariants as rule
-use Rattle.dj_verify.specs.Table.{or_else, frame_at, flow_behind, Keeps, KeepsAll, rules, AreFrames}
+use Rattle.dj_verify.specs.Table.{or_else, frame_at, Keeps, KeepsAll, rules, AreFrames}
 use Rattle.dj_sound.specs.States.{table_of}
-use Rattle.dj_blocks_shown.proofs.Walking.{drop-next, from-here, starts-here, rising-from}
+use Rattle.dj_blocks_shown.proofs.Walking.{drop-next, starts-here, rising-from}
 use Rattle.dj_standing.specs.Standing.{IsPlainly, IsPlain}
-use Rattle.dj_standing.proofs.Tags.{Fine, AllFine, Nowhere, IsFine, fine-wider, fine-get, all-wider, Constructs, fine-effect, frame-goes, entry-fine}
+use Rattle.dj_standing.proofs.Tags.{Nowhere, IsFine, fine-wider, fine-get, Constructs, fine-effect, frame-goes, entry-fine}
 use Rattle.dj_standing.proofs.Exits.{never, ends-never, jumps-never, makes-new, stores-never}
 use Rattle.dj_standing.proofs.Places.{some-same, head-is, place-before, pc-before, one-place, first-place, placed, role_at, between-at, FrameAt, frame-at, get-next, frame-there, asked-at, bearing-is, works-so, met-at}
 

@@ -1,5 +1,5 @@
 -- Instructions by their places in code: in which order they stand, what stands before each, and the frame of each in a table.
-use Rattle.std.proofs.Common.{◌≡◌, ℕ, zero, suc, ◌+◌, ◌<◌, ◌≤◌, ◌==◌, Bool, true, false, List, [], ◌∷◌, ◌++◌, map, drop, length, reverse, Contains, Option, Some, None, ◌⊎◌, inl, inr, refl, sym, ap, ◌∙◌, subst, arith, ne_eqb}
+use Rattle.std.proofs.Common.{◌≡◌, ℕ, zero, suc, ◌+◌, ◌<◌, ◌==◌, Bool, true, false, List, [], ◌∷◌, ◌++◌, drop, length, reverse, Contains, Option, Some, None, ◌⊎◌, inl, inr, refl, sym, ap, ◌∙◌, subst, arith, ne_eqb}
 use Rattle.std.specs.Prelude.{if◌then◌else◌, slice_get, is_none, ◌&&◌}
 use Rattle.std.proofs.lemmas.Bool.{cases_order, eq-eqb, eqb-true}
 use Rattle.std.proofs.lemmas.List.{reverse-append}
@@ -12,9 +12,9 @@ use Rattle.dj_code.specs.declared.method_code.Handler.{Handler}
 use Rattle.dj_code.specs.MethodCode.{Code}
 use Rattle.dj_code.specs.Targets.{targets_of}
 use Rattle.dj_tags.specs.Goes.{Assignability, Working, reversed, top_down}
-use Rattle.dj_effects.specs.Works.{Want, Bears, Never}
+use Rattle.dj_effects.specs.Works.{Never}
 use Rattle.dj_effects.specs.Spelled.{is_spelled}
-use Rattle.dj_effects.specs.Operands.{under, HasOperands}
+use Rattle.dj_effects.specs.Operands.{HasOperands}
 use Rattle.dj_effects.specs.Rows.{arguments, birth, super_call, work}
 use Rattle.dj_starts.specs.declared.roles.Role.{Role}
 use Rattle.dj_starts.specs.Births as births
@@ -22,11 +22,10 @@ use Rattle.dj_starts.specs.Births.{role_of, first_role, Between, constructed_by,
 use Rattle.dj_starts.specs.Edges.{first_pc}
 use Rattle.dj_starts.specs.Starts.{CodeAsks, BeginsBehind}
 use Rattle.dj_bytecode.specs.Machine.{code_from}
-use Rattle.dj_verify.specs.Rules.{Place}
 use Rattle.dj_verify.specs.Table.{flow_behind, AreFrames}
 use Rattle.dj_rebuildable.specs.Walking.{atoms_behind}
 use Rattle.dj_rebuildable.proofs.Strict.{many-arguments}
-use Rattle.dj_blocks_shown.proofs.Walking.{drop-next, at-least, rising-from}
+use Rattle.dj_blocks_shown.proofs.Walking.{at-least, rising-from}
 use Rattle.dj_standing.specs.Standing.{pushed_before}
 use Rattle.dj_standing.proofs.Tags.{first_of, Constructs}
 

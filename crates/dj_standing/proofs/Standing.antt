@@ -1,17 +1,15 @@
 -- The instructions of a block may stand where they do.
-use Rattle.std.proofs.Common.{◌≡◌, ◌≢◌, ℕ, zero, suc, ◌+◌, ◌<◌, ◌≤◌, ◌==◌, Bool, true, false, List, [], ◌∷◌, drop, Contains, Option, Some, None, IsSome, IsSomeAnd, ◌⊎◌, inl, inr, refl, sym, ap, ◌∙◌, subst, arith}
+use Rattle.std.proofs.Common.{◌≡◌, ◌≢◌, ℕ, suc, ◌<◌, ◌≤◌, ◌==◌, Bool, true, false, List, [], ◌∷◌, drop, Contains, Option, Some, None, IsSome, IsSomeAnd, ◌⊎◌, inl, inr, refl, sym, ap, ◌∙◌, subst, arith}
 use Rattle.std.specs.Prelude.{if◌then◌else◌, slice_get, ◌||◌}
-use Rattle.std.specs.List.{list_any}
 use Rattle.std.proofs.lemmas.Bool.{cases_order, eqb-true}
 use Rattle.dj_names.specs.declared.header.Header.{Header}
 use Rattle.dj_names.specs.Headers.{Name}
 use Rattle.dj_instructions.specs.declared.kinds.Kind.{Kind}
 use Rattle.dj_instructions.specs.Instructions.{Instruction, Instructions}
 use Rattle.dj_instructions.specs.Instructions as op
-use Rattle.dj_frames.specs.Frames.{UnbornThis, has_unborn_this}
+use Rattle.dj_frames.specs.Frames.{UnbornThis}
 use Rattle.dj_code.specs.MethodCode.{Code, Typed}
 use Rattle.dj_tags.specs.Goes.{Working}
-use Rattle.dj_effects.specs.Works.{Makes, Stores}
 use Rattle.dj_effects.specs.Rows.{work}
 use Rattle.dj_effects.specs.Effects.{or_top, effect}
 use Rattle.dj_starts.specs.declared.roles.Role.TheVariants as role
@@ -19,7 +17,7 @@ use Rattle.dj_starts.specs.Births.{role_of, IsAllowed}
 use Rattle.dj_starts.specs.Control.{control_of, falls_through, ends_block}
 use Rattle.dj_starts.specs.Edges.{Reaches}
 use Rattle.dj_starts.specs.Starts as begins
-use Rattle.dj_verify.specs.Rules.{falls, given}
+use Rattle.dj_verify.specs.Rules.{given}
 use Rattle.dj_bytecode.specs.Machine.{pc_of}
 use Rattle.dj_bytecode.specs.Meanings.{meaning_of, arguments_of}
 use Rattle.dj_sound.specs.States.{table_of}
@@ -27,16 +25,16 @@ use Rattle.dj_rebuilt.specs.Sorts.{Sort, Loading, Storing, Counting, Moving, Dou
 use Rattle.dj_rebuilt.specs.Rebuilding.{continues}
 use Rattle.dj_rebuilt.proofs.Behind.{goes-behind}
 use Rattle.dj_rebuildable.specs.Beside.{is_open}
-use Rattle.dj_rebuildable.specs.Walking.{pushes_atom, makes, atoms_kept, atoms_behind, Compares, ConstructsThis, IsReachedAt, MayStandInBirth, MayStand, AllMayStand}
+use Rattle.dj_rebuildable.specs.Walking.{pushes_atom, makes, atoms_kept, atoms_behind, IsReachedAt, MayStandInBirth, MayStand, AllMayStand}
 use Rattle.dj_blocks_shown.specs.Leaving.{is_start}
 use Rattle.dj_blocks_shown.specs.Walks.{AreStarts, LeadsToBlocks}
 use Rattle.dj_blocks_shown.proofs.Walking.{drop-next, starts-here, rising-from, listed-at, falls-to, leads-at}
 use Rattle.dj_blocks_shown.proofs.Even.{any-start}
-use Rattle.dj_standing.specs.Standing.{IsPlain, IsBorn, BlocksMayStand, StartsAreBorn}
-use Rattle.dj_standing.proofs.Tags.{Fine, AllFine, Nowhere, IsFine, fine-wider, fine-get, all-wider, all-both, closed-fine, open-one, opens, none-open, fine-effect}
+use Rattle.dj_standing.specs.Standing.{IsPlain, BlocksMayStand, StartsAreBorn}
+use Rattle.dj_standing.proofs.Tags.{Fine, Nowhere, IsFine, fine-wider, fine-get, all-wider, all-both, closed-fine, open-one, opens, none-open, fine-effect}
 use Rattle.dj_standing.proofs.Exits.{never, goes-on, new-makes, makes-new, stores-never}
 use Rattle.dj_standing.proofs.Places.{code-here, frame-there, role_at, role-next, pushed_at, pushed-next, pushed-is, between-at, bearing-is}
-use Rattle.dj_standing.proofs.Open.{same-falls, IsOpenAt, At, known, flows-on, Ends, met-here, ends-here, ends-silent, may-stand, falls-open, open-here, given-is, no-start}
+use Rattle.dj_standing.proofs.Open.{same-falls, IsOpenAt, At, known, flows-on, met-here, ends-here, ends-silent, may-stand, falls-open, open-here, given-is, no-start}
 
 -- nothing is asked of an object of a `new`
 abbrev Any : ℕ → Type 0

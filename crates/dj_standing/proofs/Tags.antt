@@ -1,5 +1,5 @@
 -- Objects that aren't born among the tags of a frame, and what an instruction leaves of them.
-use Rattle.std.proofs.Common.{◌≡◌, ℕ, zero, suc, ◌-◌, ◌+◌, ◌==◌, Bool, true, false, List, [], ◌∷◌, ◌++◌, length, map, drop, take, replicate, Option, Some, None, ◌⊎◌, inl, inr, refl, sym, ap, ◌∙◌, subst, arith}
+use Rattle.std.proofs.Common.{◌≡◌, ℕ, zero, suc, ◌-◌, ◌+◌, ◌==◌, Bool, true, false, List, [], ◌∷◌, ◌++◌, length, map, drop, take, replicate, Option, Some, None, refl, sym, ◌∙◌, subst}
 use Rattle.std.specs.Prelude.{if◌then◌else◌, option_map, slice_get, slice_set, bit_and, ◌||◌}
 use Rattle.std.specs.List.{flat_map}
 use Rattle.std.specs.Option.{option_and_then}
@@ -8,9 +8,7 @@ use Rattle.dj_names.specs.declared.members.Constant.{Constant}
 use Rattle.dj_names.specs.declared.members.Constant.TheVariants as constant
 use Rattle.dj_names.specs.Types as type
 use Rattle.dj_names.specs.Types.{JType, Class, Array, Descriptor, parameters_of, result_of}
-use Rattle.dj_names.specs.Headers.{Name}
 use Rattle.dj_names.specs.MethodNames.{is_constructor}
-use Rattle.dj_class.specs.Described.{MethodOf}
 use Rattle.dj_instructions.specs.declared.kinds.Kind.{Kind}
 use Rattle.dj_instructions.specs.declared.kinds.Kind.TheVariants as kind
 use Rattle.dj_instructions.specs.declared.kinds.Element.{Element}
@@ -18,13 +16,13 @@ use Rattle.dj_instructions.specs.declared.kinds.Element.TheVariants as element
 use Rattle.dj_instructions.specs.Instructions.{Instruction, Nop, PushNull, Push, PushClass, PushHandle, PushMethodType, Load, Store, ArrayLoad, ArrayStore, Pop, Pop2, Dup, DupX1, DupX2, Dup2, Dup2X1, Dup2X2, Swap, Calc, Iinc, Convert, Compare, IfZero, IfInts, IfRefs, IfNull, Goto, TableSwitch, LookupSwitch, Return, GetStatic, PutStatic, GetField, PutField, InvokeVirtual, InvokeSpecial, InvokeStatic, InvokeInterface, InvokeDynamic, New, NewArray, MultiNewArray, ArrayLength, Throw, CheckCast, InstanceOf, MonitorEnter, MonitorExit}
 use Rattle.dj_frames.specs.Frames.{Tag, Top, Int, Float, Double, Long, Null, UnbornThis, Object, Unborn, slots_of, is_unborn_this, is_unborn_at, tag_of, has_unborn_this, this_of, receiver_of, entry_values}
 use Rattle.dj_code.specs.MethodCode.{Code}
-use Rattle.dj_tags.specs.Goes.{Assignability, Working, words, LocalGoes, EntryGoes, EntriesGo, LocalsGo, FrameGoes}
+use Rattle.dj_tags.specs.Goes.{Assignability, Working, words, LocalGoes, EntriesGo, LocalsGo, FrameGoes}
 use Rattle.dj_effects.specs.Works.{Of, Form, Work, Plain, Moves, Loads, Stores, Counts, Makes, Bears, Elements, Sets, Supers, Leaves, Never}
 use Rattle.dj_effects.specs.Spelled.{is_spelled, is_kind}
 use Rattle.dj_effects.specs.Operands.{form_of, moved_words, under, element_tag}
 use Rattle.dj_effects.specs.Effects.{or_top, pushed, picked, moved, cut_below, stored, instead, borne, effect}
 use Rattle.dj_effects.specs.Rows.{number_tag, constant_tag, kind_of, birth, super_call, of_number, operands, read, write, leave, row, work}
-use Rattle.dj_verify.specs.Rules.{padded, head_of, entry}
+use Rattle.dj_verify.specs.Rules.{head_of, entry}
 use Rattle.dj_rebuildable.specs.Beside.{is_unborn, is_open}
 
 -- ---- what is asked of objects that aren't born

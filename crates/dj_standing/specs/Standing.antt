@@ -1,18 +1,15 @@
 -- When each instruction of a block may stand where it does: in verified code without floats, whose births can be written.
 use Rattle.std.specs.Prelude.{◌≡◌, ℕ, ◌<◌, ◌≤◌, ◌==◌, true, false, if◌then◌else◌, List, [], ◌∷◌, Contains, drop, Some, slice_get}
 use Rattle.dj_names.specs.declared.header.Header.{Header}
-use Rattle.dj_instructions.specs.Instructions.{Instruction, Instructions, IsRising}
+use Rattle.dj_instructions.specs.Instructions.{Instruction, Instructions}
 use Rattle.dj_frames.specs.Frames.{has_unborn_this}
 use Rattle.dj_stack_map.specs.StackMap.{IsNewAt}
 use Rattle.dj_code.specs.declared.method_code.Handler.{Handler}
-use Rattle.dj_code.specs.MethodCode.{Code, Typed}
+use Rattle.dj_code.specs.MethodCode.{Typed}
 use Rattle.dj_code.specs.Targets.{IsStart, AllJumpRight}
 use Rattle.dj_tags.specs.Goes.{Working}
-use Rattle.dj_tags.specs.Laxly.{Strictly}
 use Rattle.dj_starts.specs.Edges.{Reaches}
 use Rattle.dj_starts.specs.Births.{IsWritten}
-use Rattle.dj_verify.specs.Verified.{IsTyped}
-use Rattle.dj_bytecode.specs.Machine.{pc_of}
 use Rattle.dj_bytecode.specs.Meanings.{meaning_of}
 use Rattle.dj_sound.specs.States.{table_of, IsStrict}
 use Rattle.dj_rebuildable.specs.Beside.{is_open}
