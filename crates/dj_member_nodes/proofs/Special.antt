@@ -2,10 +2,10 @@
 use Rattle.std.proofs.Common.{ℕ, ◌≡◌, Bool, true, false, not, ◌&&◌, List, [], ◌∷◌, Option, Some, None, option_and_then, refl, sym, ap, ◌∙◌, subst}
 use Rattle.std.specs.Prelude.{if◌then◌else◌}
 use Rattle.std.specs.List.{list_any}
-use Rattle.std.proofs.lemmas.Bool.{and_parts, and_from, false≢true, true≢false}
+use Rattle.std.proofs.lemmas.Bool.{and_parts, and_from, true≢false}
 use Rattle.dj_names.specs.Headers.{Name}
 use Rattle.dj_names.specs.MethodNames.{is_constructor}
-use Rattle.dj_names.specs.Types.{JType, Class, StaticType, parameters_of, result_of}
+use Rattle.dj_names.specs.Types.{Class, StaticType, parameters_of, result_of}
 use Rattle.dj_kinds.specs.Search.{header_of, superclass_in, interfaces_of}
 use Rattle.dj_syntax.specs.Trees.{Exp, Exps, Text, Truth, This, Variable, ClassOf, Field, Static, Element, Call, StaticCall, SuperCall, New, NewArray, Cast, InstanceOf, Negative, Not, Binary, Choice, Assign}
 use Rattle.dj_syntax.specs.Trees as trees
@@ -15,12 +15,12 @@ use Rattle.dj_values.specs.Fits.{class_of}
 use Rattle.dj_values.specs.Deciding.{is_name, is_type, is_some_and, is_interface, is_array_clone}
 use Rattle.dj_bytecode.specs.Objects.{special_owner}
 use Rattle.dj_meaning.specs.Targets.{Target, target, by_flags, result, of_super}
-use Rattle.dj_meaning.specs.Calls.{MethodIn, chosen}
+use Rattle.dj_meaning.specs.Calls.{chosen}
 use Rattle.dj_meaning.specs.StaticTypes.{Scope}
 use Rattle.dj_typing.specs.Sites.{Site, is_whole, may_name_type}
 use Rattle.dj_typing.specs.Expressions.{has_super, means_abstract}
 use Rattle.dj_blocks_formed.specs.Formed.{constants_of}
-use Rattle.dj_members_shown.specs.Meant.{exact, asked_of, Receiver, IsOfObject, IsOfSuper, IsOfInterface, IsLawful, lawful_new, lawful_construct, lawful_private, lawful_super, lawful_interface}
+use Rattle.dj_members_shown.specs.Meant.{exact, asked_of, Receiver, IsLawful, lawful_new, lawful_construct, lawful_private, lawful_super, lawful_interface}
 use Rattle.dj_members_shown.proofs.Dressing.{one-type, type-itself}
 use Rattle.dj_rebuilding.specs.Pending.{Typed, and_then}
 use Rattle.dj_blocks_formed.specs.Ruled.{IsRuled, AreRuledOperands}

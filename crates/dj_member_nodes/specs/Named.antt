@@ -1,8 +1,8 @@
 -- What the causes give of an instruction: its member is the one that source means, and what it names can be said (JLS 6.4.2, 6.5, 6.6, 15.12.3).
-use Rattle.std.specs.Prelude.{◌≡◌, ℕ, true, false, List, [], ◌∷◌, map, Option, Some, None, IfSome}
+use Rattle.std.specs.Prelude.{◌≡◌, ℕ, true, false, List, [], ◌∷◌, Option, Some, None, IfSome}
 use Rattle.dj_names.specs.Headers.{Name}
 use Rattle.dj_names.specs.MethodNames.{is_constructor}
-use Rattle.dj_names.specs.Types.{JType, Class, StaticType, Of, parameters_of, result_of}
+use Rattle.dj_names.specs.Types.{JType, Class, parameters_of, result_of}
 use Rattle.dj_names.specs.Assignable.{object_name}
 use Rattle.std.specs.Prelude.{codes}
 use Rattle.std.specs.List.{list_any}

@@ -1,5 +1,5 @@
 -- The instructions of a block may stand where they do.
-use Rattle.std.proofs.Common.{◌≡◌, ◌≢◌, ℕ, suc, ◌<◌, ◌≤◌, ◌==◌, Bool, true, false, List, [], ◌∷◌, drop, Contains, Option, Some, None, IsSome, IsSomeAnd, ◌⊎◌, inl, inr, refl, sym, ap, ◌∙◌, subst, arith}
+use Rattle.std.proofs.Common.{◌≡◌, ◌≢◌, ℕ, suc, ◌<◌, ◌≤◌, ◌==◌, Bool, true, false, List, [], ◌∷◌, drop, Contains, Option, Some, None, IsSome, IsSomeAnd, ◌⊎◌, inl, inr, refl, sym, ap, ◌∙◌, subst, arith, IfSome}
 use Rattle.std.specs.Prelude.{if◌then◌else◌, slice_get, ◌||◌}
 use Rattle.std.proofs.lemmas.Bool.{cases_order, eqb-true}
 use Rattle.dj_names.specs.declared.header.Header.{Header}
@@ -10,6 +10,7 @@ use Rattle.dj_instructions.specs.Instructions as op
 use Rattle.dj_frames.specs.Frames.{UnbornThis}
 use Rattle.dj_code.specs.MethodCode.{Code, Typed}
 use Rattle.dj_tags.specs.Goes.{Working}
+use Rattle.dj_tags.specs.Laxly.{Strictly}
 use Rattle.dj_effects.specs.Rows.{work}
 use Rattle.dj_effects.specs.Effects.{or_top, effect}
 use Rattle.dj_starts.specs.declared.roles.Role.TheVariants as role
@@ -17,23 +18,26 @@ use Rattle.dj_starts.specs.Births.{role_of, IsAllowed}
 use Rattle.dj_starts.specs.Control.{control_of, falls_through, ends_block}
 use Rattle.dj_starts.specs.Edges.{Reaches}
 use Rattle.dj_starts.specs.Starts as begins
-use Rattle.dj_verify.specs.Rules.{given}
+use Rattle.dj_verify.specs.Rules as rules_of
+use Rattle.dj_verify.specs.Rules.{entry, falls, given, FrameKeeps}
+use Rattle.dj_verify.specs.declared.rule.Rule.TheVariants as rule
 use Rattle.dj_bytecode.specs.Machine.{pc_of}
 use Rattle.dj_bytecode.specs.Meanings.{meaning_of, arguments_of}
 use Rattle.dj_sound.specs.States.{table_of}
 use Rattle.dj_rebuilt.specs.Sorts.{Sort, Loading, Storing, Counting, Moving, Doubling, Dropping, Making, Calling, Throwing, Idle, Other, sort_of}
 use Rattle.dj_rebuilt.specs.Rebuilding.{continues}
 use Rattle.dj_rebuilt.proofs.Behind.{goes-behind}
+use Rattle.dj_rebuilt.specs.Located.{IsBehind, AllStandIn}
 use Rattle.dj_rebuildable.specs.Beside.{is_open}
 use Rattle.dj_rebuildable.specs.Walking.{pushes_atom, makes, atoms_kept, atoms_behind, IsReachedAt, MayStandInBirth, MayStand, AllMayStand}
 use Rattle.dj_blocks_shown.specs.Leaving.{is_start}
 use Rattle.dj_blocks_shown.specs.Walks.{AreStarts, LeadsToBlocks}
 use Rattle.dj_blocks_shown.proofs.Walking.{drop-next, starts-here, rising-from, listed-at, falls-to, leads-at}
 use Rattle.dj_blocks_shown.proofs.Even.{any-start}
-use Rattle.dj_standing.specs.Standing.{IsPlain, BlocksMayStand, StartsAreBorn}
+use Rattle.dj_standing.specs.Standing.{IsPlain, BlocksMayStand, StartsAreBorn, RestsAreOwn}
 use Rattle.dj_standing.proofs.Tags.{Fine, Nowhere, IsFine, fine-wider, fine-get, all-wider, all-both, closed-fine, open-one, opens, none-open, fine-effect}
 use Rattle.dj_standing.proofs.Exits.{never, goes-on, new-makes, makes-new, stores-never}
-use Rattle.dj_standing.proofs.Places.{code-here, frame-there, role_at, role-next, pushed_at, pushed-next, pushed-is, between-at, bearing-is}
+use Rattle.dj_standing.proofs.Places.{code-here, frame-at, frame-there, role_at, role-next, pushed_at, pushed-next, pushed-is, between-at, bearing-is}
 use Rattle.dj_standing.proofs.Open.{same-falls, IsOpenAt, At, known, flows-on, met-here, ends-here, ends-silent, may-stand, falls-open, open-here, given-is, no-start}
 
 -- nothing is asked of an object of a `new`
@@ -303,3 +307,26 @@ starts-are-born world typed plain ordinary starts are place first rest frame at 
       locals = none-open frame.locals fine.locals;
       stack = none-open frame.stack (all-wider ⊥ ⊥ (IsOpenAt world typed plain first.0) Nowhere (λ none. none) (λ one begun. no-start world typed plain place first rest at one begun start.begins) frame.stack fine.stack);
     }
+
+-- ---- rests
+
+pub rests-are-own : RestsAreOwn
+rests-are-own world typed strict place = all (drop place list) place refl
+  where
+    list : Instructions
+    list = typed.code.instructions
+
+    falls-past : (place : ℕ) (first : ℕ × Instruction) (rest : Instructions) → drop place typed.code.instructions ≡ first ∷ rest → falls first.1 ≡ true → rest ≡ [] → ⊥
+    falls-past place first rest e =
+        let frame = frame-there typed.code.instructions (table_of typed) place first rest strict.table.number e in
+        let found = frame-at (Strictly world) world typed.code (Some (entry typed.code)) typed.code.instructions (table_of typed) strict.table.are place first rest frame.0 e frame.1 in
+        let here : rules_of.Place = record { flow = found.flow; pc = first.0; instruction = first.1; rest = rest } in
+        subst (λ (held : Option Working). IfSome held (λ f. FrameKeeps (Strictly world) world typed.code here f rule.Past)) found.are.0 found.are.1.1.1.1.1.1.1.0
+
+    behind : (place : ℕ) (first : ℕ × Instruction) (rest : Instructions) → drop place typed.code.instructions ≡ first ∷ rest → IsBehind typed.code first.1 rest
+    behind place first [] e on = absurd (falls-past place first [] e (same-falls first.1 on) refl)
+    behind place first (next ∷ more) e on = code-here next more typed.code.instructions (suc place) strict.rising (drop-next typed.code.instructions place first (next ∷ more) e)
+
+    all : (part : Instructions) (place : ℕ) → drop place typed.code.instructions ≡ part → AllStandIn typed.code part
+    all [] place e = tt
+    all (first ∷ rest) place e = (listed-at first rest typed.code.instructions place e, behind place first rest e, all rest (suc place) (drop-next typed.code.instructions place first rest e))

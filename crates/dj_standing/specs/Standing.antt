@@ -12,6 +12,7 @@ use Rattle.dj_starts.specs.Edges.{Reaches}
 use Rattle.dj_starts.specs.Births.{IsWritten}
 use Rattle.dj_bytecode.specs.Meanings.{meaning_of}
 use Rattle.dj_sound.specs.States.{table_of, IsStrict}
+use Rattle.dj_rebuilt.specs.Located.{AllStandIn}
 use Rattle.dj_rebuildable.specs.Beside.{is_open}
 use Rattle.dj_rebuildable.specs.Walking.{moves_run_kind, is_run, atoms_behind, Compares, IsReachedAt, AllMayStand}
 use Rattle.dj_blocks_shown.specs.Leaving.{is_start}
@@ -46,6 +47,10 @@ pub record IsBorn (frame : Working) : Type 0 where
   pub stack : is_open frame.stack ≡ false
 
 -- ---- the laws
+
+-- each rest of strict code is its own: what stands behind an instruction on which control goes on is the code from there on
+abbrev pub RestsAreOwn : Type 0
+RestsAreOwn = (world : List Header) (typed : Typed) → IsStrict world typed → (place : ℕ) → AllStandIn typed.code (drop place typed.code.instructions)
 
 -- from an instruction on that control reaches, and where no object is unborn, those of its block may stand where they do
 abbrev pub BlocksMayStand : Type 0
