@@ -1,0 +1,5 @@
+use Rattle.dj_lone_exits.proofs.Lone.{lone-exits-mean}
+use Rattle.dj_lone_exits.proofs.laws.lone_exits_mean.Goals as goal
+
+pub returns : goal.returns
+returns c = record { mean = lone-exits-mean }

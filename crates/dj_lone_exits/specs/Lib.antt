@@ -1,0 +1,2 @@
+-- Methods of one block, and the law.
+pub mod Lone

@@ -1,0 +1,9 @@
+//! What holds of the ways out of a method of one block.
+
+ghost use Rattle.dj_lone_exits.specs.Lone.{LoneExitsMean};
+
+/// What a method of one block returns and throws means, as it is dressed, what the machine does with it: for all classes that may run in the world, where the body's
+/// result is the code's. No edge leads to another block.
+pub fn lone_exits_mean()
+    ensures mean { LoneExitsMean }
+{}
