@@ -1,1 +1,2 @@
 pub mod Lone
+mod Examples
