@@ -14,12 +14,12 @@ use Rattle.dj_tags.specs.Laxly.{Strictly}
 use Rattle.dj_meaning.specs.Calls.{is_assignable}
 use Rattle.dj_loaded.specs.Loaded.{HasPlainRoots}
 use Rattle.dj_rebuilding.specs.Pending.{Typed}
-use Rattle.dj_members_shown.specs.Suits.{Suits}
+use Rattle.dj_members_shown.specs.Suits.{Suits, IsRooted}
 use Rattle.dj_members_shown.specs.Suits as suits
 use Rattle.dj_members_shown.proofs.Replies.{reference-true}
 use Rattle.dj_members_shown.proofs.Suiting.{suits-assignable}
 use Rattle.dj_member_nodes.specs.Going.{fits_in, all_fit}
-use Rattle.dj_member_nodes.specs.Suited.{IsRooted, AreSuitedTo, SuitedOperandsFit}
+use Rattle.dj_member_nodes.specs.Suited.{AreSuitedTo, SuitedOperandsFit}
 
 module _ (world : List Header) (roots : HasPlainRoots world) where
   -- where an int goes an int is wanted

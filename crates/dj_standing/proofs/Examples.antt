@@ -4,6 +4,8 @@ use Rattle.std.specs.Prelude.{if◌then◌else◌, slice_get, ◌&&◌}
 use Rattle.std.proofs.lemmas.List.Elements.{Contains-get_or}
 use Rattle.dj_names.specs.declared.header.Header.{Header}
 use Rattle.dj_names.specs.Types as types
+use Rattle.dj_names.specs.Assignable.{IsReference}
+use Rattle.dj_values.specs.Fits.{innermost}
 use Rattle.dj_names.specs.Types.{JType, StaticType, Of, Method}
 use Rattle.dj_syntax.specs.declared.variable.Var.{Var}
 use Rattle.dj_syntax.specs.declared.operator.Op.TheVariants as operator
@@ -31,7 +33,7 @@ use Rattle.dj_starts.specs.Starts.{BeginsBlock, IsBlockStart}
 use Rattle.dj_bytecode.specs.Machine.{pc_of, code_from}
 use Rattle.dj_bytecode.specs.Meanings.{Strict, meaning_of}
 use Rattle.dj_sound.specs.States.{table_of, IsStrict}
-use Rattle.dj_members_shown.specs.Suits.{int}
+use Rattle.dj_members_shown.specs.Suits.{SuitsWell, int}
 use Rattle.dj_rebuilding.specs.Pending.{Named, Typed as Operand, fresh}
 use Rattle.dj_rebuilt.specs.Nodes.{is_whole, as_int}
 use Rattle.dj_rebuilt.specs.Known.{constant_of, own_nodes}
@@ -242,6 +244,13 @@ stands = blocks-may-stand none_known typed plain (0 ∷ []) starts-are 0 (0, Loa
 
 -- ---- what rebuilding rests on
 
+-- an int is one
+int-well : SuitsWell none_known (Of types.Int) tag.Int
+int-well = record { suits = int refl; rooted = λ own same reference. absurd (subst (λ type. IsReference (innermost type)) (sym (own-is own same)) reference) }
+  where
+    own-is : (own : JType) → Of types.Int ≡ Of own → types.Int ≡ own
+    own-is own e = cc
+
 -- no edge has an answer
 abbrev edges : Edges
 edges = record { puts = λ names stack target variable. false; jump = λ names stack target. None; fits = λ static type. true; compares = λ one other. false }
@@ -323,7 +332,7 @@ both-ints (first ∷ second ∷ []) (one ∷ other ∷ []) many same suited =
     let other_int : tag.Int ≡ other = cc in
     let one_int : tag.Int ≡ one = cc in
     one_node refl refl (ap (λ (test : Bool). if test then Some (Of types.Int, trees.Binary operator.Sub (as_int first.0 first.1) (as_int second.0 second.1)) else None)
-    (ap (λ (test : Bool). test && is_whole second.0) (whole-is none_known suited.0 (sym one_int)) ∙ whole-is none_known suited.1.0 (sym other_int))) (int refl)
+    (ap (λ (test : Bool). test && is_whole second.0) (whole-is none_known suited.0 (sym one_int)) ∙ whole-is none_known suited.1.0 (sym other_int))) int-well
 
 -- a difference takes two ints and gives one
 difference : (count : ℕ) → 2 ≡ count → (gives : Option Tag) → tag.Int ∷ [] ≡ pushed gives (drop count (tag.Int ∷ tag.Int ∷ [])) → (are : List Operand) (tags : List Tag) → length tags ≡ count
@@ -369,7 +378,7 @@ serves = record {
     strict-two count operation e = cc
 
     int-target : HasTarget none_known ways 3 tag.Int
-    int-target = record { target = fresh 1; type = types.Int; is = refl; suits = int refl; takes = takes-int; goes = λ static suits. whole-is none_known suits refl }
+    int-target = record { target = fresh 1; type = types.Int; is = refl; suits = int-well; takes = takes-int; goes = λ static suits. whole-is none_known suits refl }
 
 -- ---- its statements
 
@@ -382,8 +391,8 @@ beside : IsBeside none_known code false 0 (first_role listing) names [] (working
 beside = record { entries = settled refl nothing; locals = named; on_top = tt }
   where
     named : AreNamedBeside none_known code names (tag.Int ∷ tag.Int ∷ [])
-    named zero = record { type = types.Int; atom = Named (fresh 0); is = refl; suits = int refl; takes = takes-int }
-    named (suc zero) = record { type = types.Int; atom = Named (fresh 1); is = refl; suits = int refl; takes = takes-int }
+    named zero = record { type = types.Int; atom = Named (fresh 0); is = refl; suits = int-well; takes = takes-int }
+    named (suc zero) = record { type = types.Int; atom = Named (fresh 1); is = refl; suits = int-well; takes = takes-int }
     named (suc (suc zero)) = tt
     named (suc (suc (suc slot))) = tt
 
