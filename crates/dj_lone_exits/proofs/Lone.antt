@@ -41,13 +41,14 @@ use Rattle.dj_rebuilt.proofs.Fitting.{fitted-within, within-refines}
 use Rattle.dj_member_nodes.specs.Going.{fits_in}
 use Rattle.dj_member_nodes.proofs.Dressed.{dressed-small}
 use Rattle.dj_member_nodes.proofs.Operands.{goes-where}
+use Rattle.dj_member_nodes.proofs.Suited.{suited-fits}
 use Rattle.dj_strict_entries.specs.Entries.{GoesWhere, EntryIsThrown}
 use Rattle.dj_strict_entries.proofs.Keeping.{carried, operand-of}
 use Rattle.dj_strict_entries.proofs.Throwing.{entry-thrown}
 use Rattle.dj_exits.specs.Exits.{throwable}
 use Rattle.dj_exits.specs.Meaning.{Returns}
 use Rattle.dj_exits.proofs.Shown.{value-never}
-use Rattle.dj_lone_exits.specs.Lone.{LoneExitsMean}
+use Rattle.dj_lone_exits.specs.Lone.{LoneExitsMean, LoneEdgesServe}
 
 -- ---- replies
 
@@ -221,4 +222,12 @@ lone-exits-mean world context core may code result bound base most scope owner e
   old = λ names stack target k less. refl;
   bare = λ names stack target last e. absurd (cc);
   jumps = λ names lawful n inner below ready assigned so_far spilled target puts last e. absurd (cc);
+}
+
+-- ---- their answers
+
+pub lone-edges-serve : LoneEdgesServe
+lone-edges-serve world roots typed starts nowhere = record {
+  jumps = λ just_made atoms pc instruction rest frame may target leads names stack at all. absurd (nowhere just_made atoms pc instruction rest frame may target leads);
+  fits = λ static held to well goes. suited-fits world roots static held to well.rooted well.suits goes;
 }
