@@ -13,3 +13,5 @@ mod starts;
 mod tables;
 #[cfg(test)]
 mod values;
+#[cfg(test)]
+mod variables;
