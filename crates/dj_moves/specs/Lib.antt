@@ -1,0 +1,3 @@
+-- What the public contracts rest on.
+pub mod Moves
+pub mod Laws
