@@ -7,7 +7,7 @@ use Rattle.dj_syntax.specs.declared.variable.Var.{Var}
 use Rattle.dj_values.specs.Values.{RefValue, Value, Int, Long, Null, Ref, Action, Answer, Enter, Exit, Trap}
 use Rattle.dj_values.specs.Deciding.{is_answer, is_throwable}
 use Rattle.dj_values.specs.Outcomes.{Stop, Throws, More, Stuck, Reply, Gives, Halts, Asks, ask, then_on, World, State, Outcome, Is, Stops, bind, acted, answered, outside, shown}
-use Rattle.dj_meaning.specs.StaticTypes.{Context, is_same_variable}
+use Rattle.dj_meaning.specs.StaticTypes.{Context}
 use Rattle.dj_meaning.specs.Objects.{with_object}
 use Rattle.dj_meaning.specs.Runs.{Store, Meaning, pure, stop, ◌>>=◌, with, looked_up, with_value, with_store, put, map_state, local}
 use Rattle.dj_meaning.specs.Expressions.{either}

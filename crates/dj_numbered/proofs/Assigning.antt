@@ -1,13 +1,13 @@
 -- Other names keep definite assignment.
-use Rattle.std.proofs.Common.{ℕ, ◌+◌, Bool, true, false, not, List, Option, Some, None, ◌≡◌, refl, sym, subst, ◌&&◌, ◌||◌}
+use Rattle.std.proofs.Common.{ℕ, ◌+◌, Bool, true, false, not, Option, Some, None, ◌≡◌, refl, sym, subst, ◌&&◌, ◌||◌}
 use Rattle.std.specs.Prelude.{if◌then◌else◌}
 use Rattle.dj_syntax.specs.declared.variable.Var.{Var}
 use Rattle.dj_syntax.specs.Trees.{Exp, Text, Truth, Null, This, Variable, ClassOf, Field, Static, Element, Call, StaticCall, SuperCall, New, NewArray, Cast, InstanceOf, Negative, Not, Binary, Choice, Assign, Exps, NoExps, AndExp, Stm, Block, Labelled, Declare, Set, SetField, SetStatic, SetElement, Run, If, While, Switch, Return, Throw, Rethrow, Try, Synchronized, Construct, Do, For, Finally, Stms, Empty, And, Groups, NoGroups, AndGroup, Catches, NoCatches, AndCatch}
 use Rattle.dj_syntax.specs.Trees as trees
-use Rattle.dj_syntax.specs.Weight.{weight_of, weight_of_exp, weight_of_stms}
+use Rattle.dj_syntax.specs.Weight.{weight_of_exp, weight_of_stms}
 use Rattle.dj_meaning.specs.Statements.{is_labelled}
 use Rattle.dj_places.specs.Constants.{Surroundings, constant_truth}
-use Rattle.dj_places.specs.Rules.{Rules, Rule, ◌and◌}
+use Rattle.dj_places.specs.Rules.{Rule, ◌and◌}
 use Rattle.dj_places.specs.declared.kind.TypeKind.TheVariants.{Assigned}
 use Rattle.dj_reach.specs.declared.jump.Jump.{Jump}
 use Rattle.dj_reach.specs.declared.jump.Jump.TheVariants as jumps

@@ -1,14 +1,14 @@
 -- In the numbered text the numbers count up: each list of what it uses is 0, 1 and so on.
-use Rattle.std.proofs.Common.{ℕ, zero, suc, Bool, true, false, List, [], ◌∷◌, ◌++◌, map, Option, Some, None, ◌≡◌, refl, sym, ap, ◌∙◌, subst, ◌==◌, ◌||◌}
+use Rattle.std.proofs.Common.{ℕ, suc, Bool, true, false, List, [], ◌∷◌, ◌++◌, map, Option, Some, None, ◌≡◌, refl, sym, ap, ◌∙◌, subst, ◌==◌, ◌||◌}
 use Rattle.std.specs.Prelude.{if◌then◌else◌}
 use Rattle.std.proofs.lemmas.Bool.{eq-eqb, eqb-true, false≢true}
 use Rattle.dj_syntax.specs.declared.variable.VarKind.{VarKind}
 use Rattle.dj_syntax.specs.declared.variable.VarKind.TheVariants as kind
 use Rattle.dj_syntax.specs.declared.variable.Var.{Var}
-use Rattle.dj_syntax.specs.Trees.{Exp, Text, Truth, This, Variable, ClassOf, Field, Static, Element, Call, StaticCall, SuperCall, New, NewArray, Cast, InstanceOf, Negative, Not, Binary, Choice, Assign, Exps, NoExps, AndExp, Stm, Block, Labelled, Declare, Set, SetField, SetStatic, SetElement, Run, If, While, Switch, Break, Continue, Return, Throw, Rethrow, Try, Synchronized, Construct, Do, For, Finally, Stms, Empty, And, Groups, NoGroups, AndGroup, Catches, NoCatches, AndCatch, Body}
+use Rattle.dj_syntax.specs.Trees.{Exp, Text, Truth, This, Variable, ClassOf, Field, Static, Element, Call, StaticCall, SuperCall, New, NewArray, Cast, InstanceOf, Negative, Not, Binary, Choice, Assign, Exps, NoExps, AndExp, Stm, Block, Labelled, Declare, Set, SetField, SetStatic, SetElement, Run, If, While, Switch, Break, Continue, Return, Throw, Rethrow, Try, Synchronized, Construct, Do, For, Finally, Stms, Empty, And, Groups, NoGroups, AndGroup, Catches, NoCatches, AndCatch}
 use Rattle.dj_syntax.specs.Trees as trees
 use Rattle.dj_renaming.specs.Renaming.{exp_renamed, exps_renamed, option_renamed, renamed, all_renamed, groups_renamed, catches_renamed}
-use Rattle.dj_numbered.specs.Numbering.{Used, nothing_used, is_listed, listed, variable_used, label_used, exp_used, exps_used, option_used, stm_used, stms_used, groups_used, catches_used, place_of, variable_named, names_for, numbered, CountUp, NumbersCountUp}
+use Rattle.dj_numbered.specs.Numbering.{Used, nothing_used, is_listed, listed, variable_used, label_used, exp_used, exps_used, option_used, stm_used, stms_used, groups_used, catches_used, place_of, variable_named, names_for, CountUp, NumbersCountUp}
 use Rattle.dj_numbered.proofs.Numbering.{places_apart}
 
 -- ---- lists without a number twice

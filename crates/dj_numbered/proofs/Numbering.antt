@@ -1,6 +1,6 @@
 -- Numbers in the order of the text keep types and shows.
-use Rattle.std.proofs.Common.{ℕ, zero, suc, Bool, true, false, not, List, [], ◌∷◌, Option, Some, None, map, ◌≡◌, refl, sym, ap, ◌∙◌, subst, ◌||◌, ◌==◌}
-use Rattle.std.specs.Prelude.{if◌then◌else◌, slice_get}
+use Rattle.std.proofs.Common.{ℕ, suc, Bool, true, false, not, List, [], ◌∷◌, ◌≡◌, refl, sym, ap, ◌∙◌, subst, ◌||◌, ◌==◌}
+use Rattle.std.specs.Prelude.{if◌then◌else◌}
 use Rattle.std.proofs.Math.Dec.{eqb-suc-suc, eqb-suc-zero, eqb-zero-suc}
 use Rattle.std.proofs.lemmas.Bool.{eq-eqb, eqb-true, false≢true}
 use Rattle.dj_names.specs.declared.header.Header.{Header}
@@ -12,14 +12,12 @@ use Rattle.dj_syntax.specs.declared.variable.VarKind.TheVariants as kind
 use Rattle.dj_syntax.specs.declared.variable.Var.{Var}
 use Rattle.dj_syntax.specs.Trees.{Stm, Block, Labelled, Declare, Set, SetField, SetStatic, SetElement, Run, If, While, Switch, Break, Continue, Return, Throw, Rethrow, Try, Synchronized, Construct, Do, For, Finally, Stms, Empty, And, Body}
 use Rattle.dj_syntax.specs.Weight.{weight_of}
-use Rattle.dj_values.specs.Values.{Value, Answer}
 use Rattle.dj_values.specs.Fits.{is_static, behind_this}
-use Rattle.dj_values.specs.Outcomes.{opening}
-use Rattle.dj_meaning.specs.StaticTypes.{Scope, is_same_variable}
+use Rattle.dj_meaning.specs.StaticTypes.{is_same_variable}
 use Rattle.dj_meaning.specs.Statements.{First}
-use Rattle.dj_meaning.specs.Meaning.{of_parameter, entered, context_of, source_show}
+use Rattle.dj_meaning.specs.Meaning.{of_parameter, entered, context_of}
 use Rattle.dj_meaning.specs.Declarations.{declared, within}
-use Rattle.dj_places.specs.Rules.{Rules, Rule, ◌and◌, Holds}
+use Rattle.dj_places.specs.Rules.{Rule, ◌and◌, Holds}
 use Rattle.dj_places.specs.declared.kind.TypeKind.TheVariants as kinds
 use Rattle.dj_places.specs.Surroundings.{around_body}
 use Rattle.dj_variables.specs.Sets.{everything}
@@ -32,7 +30,7 @@ use Rattle.dj_typing.specs.Sites.{may_name}
 use Rattle.dj_typed.specs.Statements.{Around, all_types}
 use Rattle.dj_typed.specs.Bodies.{Writing, site_in, around_in, is_construct, begins_with_construct, body_types, body_rules}
 use Rattle.dj_renaming.specs.Renaming.{Names, AreApart, renamed, all_renamed, AreScopesAlike}
-use Rattle.dj_renaming.proofs.Types.{weighs_stm, within_alike, all_targets, stm_alike, list_alike}
+use Rattle.dj_renaming.proofs.Types.{weighs_stm, within_alike, stm_alike, list_alike}
 use Rattle.dj_renaming.proofs.Reach.{list_completes_alike, renamed_reach}
 use Rattle.dj_numbered.specs.Throws.{AreHeldAlike}
 use Rattle.dj_numbered.specs.Numbering.{Used, nothing_used, stms_used, place_of, variable_named, names_for, numbered, NumbersAreApart, NumberedIsTyped, NumberedShows}

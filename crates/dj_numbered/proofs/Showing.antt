@@ -1,10 +1,9 @@
 -- Runs under other names show the same.
-use Rattle.std.proofs.Common.{ℕ, ◌+◌, Bool, true, false, List, [], ◌∷◌, replicate, Option, Some, None, option_and_then, is_some, ◌≡◌, refl, sym, ap, subst, ◌||◌}
+use Rattle.std.proofs.Common.{ℕ, ◌+◌, Bool, true, false, List, [], ◌∷◌, replicate, Option, Some, None, option_and_then, is_some, ◌≡◌, refl, ap, subst, ◌||◌}
 use Rattle.std.specs.Prelude.{ℤ, if◌then◌else◌}
-use Rattle.dj_names.specs.declared.header.Header.{Header}
 use Rattle.dj_names.specs.Headers.{Name}
 use Rattle.dj_names.specs.Types as types
-use Rattle.dj_names.specs.Types.{JType, Class, StaticType, parameters_of}
+use Rattle.dj_names.specs.Types.{JType, Class, parameters_of}
 use Rattle.dj_syntax.specs.declared.variable.Var.{Var}
 use Rattle.dj_syntax.specs.Trees.{Exp, Text, Truth, This, Variable, ClassOf, Field, Static, Element, Call, StaticCall, SuperCall, NewArray, Cast, InstanceOf, Negative, Not, Binary, Choice, Assign, Exps, NoExps, AndExp, Stm, Block, Labelled, Declare, Set, SetField, SetStatic, SetElement, Run, If, While, Switch, Throw, Rethrow, Try, Synchronized, Construct, Do, For, Finally, Stms, Empty, And, Groups, NoGroups, AndGroup, Catches, NoCatches, AndCatch}
 use Rattle.dj_syntax.specs.Trees as trees
@@ -20,7 +19,7 @@ use Rattle.dj_meaning.specs.Targets.{Target}
 use Rattle.dj_meaning.specs.Promotions.{typing_of, becomes_floating}
 use Rattle.dj_meaning.specs.StaticTypes.{Context, Scope, with_type, plain, array_of, count, type_of, types_of, object_target, class_target, super_target, new_target, construct_target}
 use Rattle.dj_meaning.specs.Objects.{text, is_of, with_object, static_read, element_read, array_made, called, field_written, element_written}
-use Rattle.dj_meaning.specs.Runs.{Meaning, pure, stop, ◌>>=◌, present, given, with, fitted, assigned}
+use Rattle.dj_meaning.specs.Runs.{Meaning, pure, stop, ◌>>=◌, present, given, fitted, assigned}
 use Rattle.dj_meaning.specs.Expressions.{this_value, selected_read, call_on, call_static, made, floating, tested, value, values, test, effect}
 use Rattle.dj_meaning.specs.Completions.{Completion, Normal, Break, Continue, Return, Misfit, sequence, turns, do_turns, returns_nothing, returns_value}
 use Rattle.dj_meaning.specs.Declarations.{declared, within, behind, locally, opened, passed_one, passed, initialised, caught}
@@ -28,8 +27,8 @@ use Rattle.dj_meaning.specs.Statements.{Place, First, Behind, Elsewhere, label_a
 use Rattle.dj_meaning.specs.Meaning.{run, run_then, run_groups, run_from, run_clauses, run_all, run_statements, ended}
 use Rattle.dj_renaming.specs.Renaming.{Names, AreApart, exp_renamed, exps_renamed, option_renamed, renamed, all_renamed, groups_renamed, catches_renamed, AreScopesAlike}
 use Rattle.dj_renaming.proofs.Types.{type_alike, types_alike, with_alike, within_alike, behind_alike, counted}
-use Rattle.dj_numbered.specs.Shows.{AreStatesAlike, RenamedShows}
-use Rattle.dj_numbered.proofs.Acts.{completion_renamed, Finds, Does, acts_pure, finds_pure, does_pure, acts_stop, finds_outside, does_thrown, acts_bind, acts_with, acts_either, finds_look, finds_put, does_local, does_sequence, does_taken, does_turns, does_do_turns, does_handled, does_finished, does_holding, finds_ended, shown_alike}
+use Rattle.dj_numbered.specs.Shows.{RenamedShows}
+use Rattle.dj_numbered.proofs.Acts.{completion_renamed, Finds, Does, finds_pure, does_pure, acts_stop, finds_outside, does_thrown, acts_bind, acts_with, acts_either, finds_look, finds_put, does_local, does_sequence, does_taken, does_turns, does_do_turns, does_handled, does_finished, does_holding, finds_ended, shown_alike}
 
 -- where a statement stands, by the other name of the label right before it
 abbrev place_renamed : Names → Place → Place

@@ -2,14 +2,14 @@
 use Rattle.std.proofs.Common.{ℕ, ◌+◌, Bool, true, false, List, [], ◌∷◌, ◌++◌, Option, Some, None, option_and_then, ◌≡◌, refl, sym, ap, ◌∙◌, ◌&&◌, ◌||◌}
 use Rattle.std.specs.Prelude.{if◌then◌else◌}
 use Rattle.dj_names.specs.Headers.{Name}
-use Rattle.dj_names.specs.Types.{JType, Class, StaticType}
+use Rattle.dj_names.specs.Types.{JType, Class}
 use Rattle.dj_syntax.specs.declared.variable.Var.{Var}
 use Rattle.dj_syntax.specs.Trees.{Exp, Text, Truth, Null, This, Variable, ClassOf, Field, Static, Element, Call, StaticCall, SuperCall, New, NewArray, Cast, InstanceOf, Negative, Not, Binary, Choice, Assign, Exps, NoExps, AndExp, Stm, Block, Labelled, Declare, Set, SetField, SetStatic, SetElement, Run, If, While, Switch, Break, Continue, Return, Throw, Rethrow, Try, Synchronized, Construct, Do, For, Finally, Stms, Empty, And, Groups, NoGroups, AndGroup, Catches, NoCatches, AndCatch}
 use Rattle.dj_syntax.specs.Trees as trees
-use Rattle.dj_syntax.specs.Weight.{weight_of, weight_of_exp, weight_of_stms}
+use Rattle.dj_syntax.specs.Weight.{weight_of_exp, weight_of_stms}
 use Rattle.dj_meaning.specs.StaticTypes.{Scope, is_same_variable, with_type, plain, type_of, types_of}
 use Rattle.dj_meaning.specs.Declarations.{declared, within, behind}
-use Rattle.dj_places.specs.Rules.{Rules, Rule, ◌and◌}
+use Rattle.dj_places.specs.Rules.{Rule, ◌and◌}
 use Rattle.dj_places.specs.declared.kind.TypeKind.TheVariants as kinds
 use Rattle.dj_thrown.specs.declared.throwing.Throwing.{Throwing}
 use Rattle.dj_thrown.specs.declared.throwing.Held.{Held}
