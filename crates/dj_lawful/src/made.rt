@@ -117,6 +117,22 @@ impl Made {
         }
     }
 
+    /// An equal statement that completes normally, if it is reached.
+    pub fn kept(alloc: Global, statement: &Stm) -> Result<Made, AllocError>
+        ensures made { IfOk result (λ made. view_made made ≡ spec.goes_on (view_stm statement.now)) }
+    {
+        let copy = statement.copy(alloc)?;
+        Ok(Made::going_on(alloc, copy))
+    }
+
+    /// An equal one that doesn't, and isn't a jump.
+    pub fn ending(alloc: Global, statement: &Stm) -> Result<Made, AllocError>
+        ensures made { IfOk result (λ made. view_made made ≡ spec.stops (view_stm statement.now)) }
+    {
+        let copy = statement.copy(alloc)?;
+        Ok(Made::stopping(alloc, copy))
+    }
+
     /// A jump.
     pub fn leaping(alloc: Global, statement: Stm, jump: Jump) -> Result<Made, AllocError>
         ensures made { IfOk result (λ made. view_made made ≡ spec.leaps (view_stm statement) jump) }

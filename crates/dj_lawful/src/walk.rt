@@ -1,7 +1,9 @@
 //! The pass that makes a tree lawful.
 
-ghost use Rattle.std.specs.Prelude.{◌≡◌, IfOk};
-ghost use Rattle.dj_syntax.specs.Trees.{view_catches, view_groups, view_stm, view_stms};
+ghost use Rattle.std.specs.Prelude.{◌≡◌, None, Some, IfOk};
+ghost use Rattle.dj_syntax.specs.Trees.{view_catches, view_exp, view_groups, view_stm, view_stms};
+ghost use Rattle.dj_meaning.specs.Statements.{is_labelled};
+ghost use Rattle.dj_places.specs.Constants.{constant_truth as constant_truth_of};
 ghost use Rattle.dj_places.specs.Surroundings.{surroundings_of};
 ghost use Rattle.dj_declaring.specs.Passes as spec;
 ghost use Rattle.dj_lawful.specs.PassViews.{view_list, view_made, view_made_clauses, view_made_groups};
@@ -10,10 +12,11 @@ use crate::made::{Made, MadeClauses, MadeGroups, MadeList, exit_of};
 use dj_places::constant_truth;
 use dj_reach::{Jump, has_default};
 use dj_static::Classes;
-use dj_syntax::{Catch, Group, Stm};
+use dj_syntax::{Catch, Exp, Group, Stm, Var};
 use std::alloc::{AllocError, Global};
 
-/// Makes a statement lawful, given the label right before it, and that whose breaks stand in place of returns.
+/// Makes a statement lawful, given the label right before it, and that whose breaks stand in place of returns. Most kinds
+/// have a function of their own, so that the recursion takes little of the stack a level.
 #[cycle(pass)]
 pub fn pass(
     alloc: Global,
@@ -25,13 +28,9 @@ pub fn pass(
     ensures made { IfOk result (λ made. view_made made ≡ spec.pass (surroundings_of classes.now) leaving own (view_stm statement.now)) }
 {
     match statement {
-        Stm::Block(list) => {
-            let inner = made_list(alloc, classes, leaving, list.as_slice())?;
-            Ok(Made::blocked(inner))
-        }
+        Stm::Block(list) => pass_block(alloc, classes, leaving, list.as_slice()),
         Stm::Labelled(label, inner) => {
-            let made = pass(alloc, classes, leaving, Some(*label), inner.get())?;
-            Made::under(alloc, *label, made)
+            pass_labelled(alloc, classes, leaving, inner.get(), *label)
         }
         Stm::Declare(_, _, _)
         | Stm::Set(_, _)
@@ -39,40 +38,23 @@ pub fn pass(
         | Stm::SetStatic(_, _, _)
         | Stm::SetElement(_, _, _)
         | Stm::Run(_)
-        | Stm::Construct(_, _) => {
-            let copy = statement.copy(alloc)?;
-            Ok(Made::going_on(alloc, copy))
-        }
+        | Stm::Construct(_, _) => Made::kept(alloc, statement),
         Stm::If(test, first, second) => {
             let first = made_list(alloc, classes, leaving, first.as_slice())?;
             let second = made_list(alloc, classes, leaving, second.as_slice())?;
             Made::chosen(alloc, test, first, second)
         }
-        Stm::While(test, body) => {
-            let known = constant_truth(alloc, classes, test)?;
-            let inner = made_list(alloc, classes, leaving, body.as_slice())?;
-            Made::turning(alloc, known, test, inner)
-        }
-        Stm::Switch(on, groups) => {
-            let mut inner = MadeGroups::new(alloc);
-            pass_groups(alloc, classes, leaving, groups.as_slice(), &mut inner)?;
-            Made::switched(alloc, has_default(groups.as_slice()), on, inner)
-        }
+        Stm::While(test, body) => pass_while(alloc, classes, leaving, body.as_slice(), test),
+        Stm::Switch(on, groups) => pass_switch(alloc, classes, leaving, groups.as_slice(), on),
         Stm::Break(label) => Made::leaping(alloc, Stm::Break(*label), Jump::Break(*label)),
         Stm::Continue(label) => {
             Made::leaping(alloc, Stm::Continue(*label), Jump::Continue(*label))
         }
         Stm::Return(value) => match exit_of(leaving, value) {
-            None => {
-                let copy = statement.copy(alloc)?;
-                Ok(Made::stopping(alloc, copy))
-            }
+            None => Made::ending(alloc, statement),
             Some(label) => Made::leaping(alloc, Stm::Break(label), Jump::Break(label)),
         },
-        Stm::Throw(_) | Stm::Rethrow(_) => {
-            let copy = statement.copy(alloc)?;
-            Ok(Made::stopping(alloc, copy))
-        }
+        Stm::Throw(_) | Stm::Rethrow(_) => Made::ending(alloc, statement),
         Stm::Try(body, catches) => {
             let inner = made_list(alloc, classes, leaving, body.as_slice())?;
             let mut caught = MadeClauses::new(alloc);
@@ -80,19 +62,18 @@ pub fn pass(
             Made::tried(inner, caught)
         }
         Stm::Synchronized(monitor, body) => {
-            let inner = made_list(alloc, classes, leaving, body.as_slice())?;
-            Made::locked(alloc, monitor, inner)
+            pass_synchronized(alloc, classes, leaving, body.as_slice(), monitor)
         }
-        Stm::Do(body, test) => {
-            let known = constant_truth(alloc, classes, test)?;
-            let inner = made_list(alloc, classes, leaving, body.as_slice())?;
-            Made::repeated(alloc, own, known, inner, test)
-        }
-        Stm::For(test, variable, step, body) => {
-            let known = constant_truth(alloc, classes, test)?;
-            let inner = made_list(alloc, classes, leaving, body.as_slice())?;
-            Made::counting(alloc, known, test, *variable, step, inner)
-        }
+        Stm::Do(body, test) => pass_do(alloc, classes, leaving, body.as_slice(), own, test),
+        Stm::For(test, variable, step, body) => pass_for(
+            alloc,
+            classes,
+            leaving,
+            body.as_slice(),
+            test,
+            *variable,
+            step,
+        ),
         Stm::Finally(body, last) => {
             let inner = made_list(alloc, classes, leaving, body.as_slice())?;
             let behind = made_list(alloc, classes, leaving, last.as_slice())?;
@@ -173,4 +154,117 @@ fn pass_clauses(
         made.add(alloc, &clause.class, clause.variable, body)?;
     }
     Ok(())
+}
+
+// ---- statements with statements in them
+
+/// A block.
+#[cycle(pass)]
+fn pass_block(
+    alloc: Global,
+    classes: &Classes<'_>,
+    leaving: Option<u32>,
+    list: &[Stm],
+) -> Result<Made, AllocError>
+    ensures made { IfOk result (λ made. view_made made ≡ spec.blocked (spec.made_of (surroundings_of classes.now) leaving (view_stms list.now))) }
+{
+    let inner = made_list(alloc, classes, leaving, list)?;
+    Ok(Made::blocked(inner))
+}
+
+/// A statement under a label.
+#[cycle(pass)]
+fn pass_labelled(
+    alloc: Global,
+    classes: &Classes<'_>,
+    leaving: Option<u32>,
+    inner: &Stm,
+    label: u32,
+) -> Result<Made, AllocError>
+    ensures made { IfOk result (λ made. view_made made ≡ spec.under label (spec.pass (surroundings_of classes.now) leaving (Some label) (view_stm inner.now))) }
+{
+    let made = pass(alloc, classes, leaving, Some(label), inner)?;
+    Made::under(alloc, label, made)
+}
+
+/// A `while`.
+#[cycle(pass)]
+fn pass_while(
+    alloc: Global,
+    classes: &Classes<'_>,
+    leaving: Option<u32>,
+    body: &[Stm],
+    test: &Exp,
+) -> Result<Made, AllocError>
+    ensures made { IfOk result (λ made. view_made made ≡ spec.turning (constant_truth_of (surroundings_of classes.now) (view_exp test.now)) (view_exp test.now) (spec.made_of (surroundings_of classes.now) leaving (view_stms body.now))) }
+{
+    let known = constant_truth(alloc, classes, test)?;
+    let inner = made_list(alloc, classes, leaving, body)?;
+    Made::turning(alloc, known, test, inner)
+}
+
+/// A `switch`.
+#[cycle(pass)]
+fn pass_switch(
+    alloc: Global,
+    classes: &Classes<'_>,
+    leaving: Option<u32>,
+    groups: &[Group],
+    on: &Exp,
+) -> Result<Made, AllocError>
+    ensures made { IfOk result (λ made. view_made made ≡ spec.switched (is_labelled None (view_groups groups.now)) (view_exp on.now) (spec.pass_groups (surroundings_of classes.now) leaving (view_groups groups.now) spec.no_groups)) }
+{
+    let mut inner = MadeGroups::new(alloc);
+    pass_groups(alloc, classes, leaving, groups, &mut inner)?;
+    Made::switched(alloc, has_default(groups), on, inner)
+}
+
+/// A `synchronized`.
+#[cycle(pass)]
+fn pass_synchronized(
+    alloc: Global,
+    classes: &Classes<'_>,
+    leaving: Option<u32>,
+    body: &[Stm],
+    monitor: &Exp,
+) -> Result<Made, AllocError>
+    ensures made { IfOk result (λ made. view_made made ≡ spec.locked (view_exp monitor.now) (spec.made_of (surroundings_of classes.now) leaving (view_stms body.now))) }
+{
+    let inner = made_list(alloc, classes, leaving, body)?;
+    Made::locked(alloc, monitor, inner)
+}
+
+/// A `do`, given the label right before it.
+#[cycle(pass)]
+fn pass_do(
+    alloc: Global,
+    classes: &Classes<'_>,
+    leaving: Option<u32>,
+    body: &[Stm],
+    own: Option<u32>,
+    test: &Exp,
+) -> Result<Made, AllocError>
+    ensures made { IfOk result (λ made. view_made made ≡ spec.repeated own (constant_truth_of (surroundings_of classes.now) (view_exp test.now)) (spec.made_of (surroundings_of classes.now) leaving (view_stms body.now)) (view_exp test.now)) }
+{
+    let known = constant_truth(alloc, classes, test)?;
+    let inner = made_list(alloc, classes, leaving, body)?;
+    Made::repeated(alloc, own, known, inner, test)
+}
+
+/// A `for`.
+#[cycle(pass)]
+fn pass_for(
+    alloc: Global,
+    classes: &Classes<'_>,
+    leaving: Option<u32>,
+    body: &[Stm],
+    test: &Exp,
+    variable: Var,
+    step: &Exp,
+) -> Result<Made, AllocError>
+    ensures made { IfOk result (λ made. view_made made ≡ spec.counting (constant_truth_of (surroundings_of classes.now) (view_exp test.now)) (view_exp test.now) variable (view_exp step.now) (spec.made_of (surroundings_of classes.now) leaving (view_stms body.now))) }
+{
+    let known = constant_truth(alloc, classes, test)?;
+    let inner = made_list(alloc, classes, leaving, body)?;
+    Made::counting(alloc, known, test, variable, step, inner)
 }
