@@ -18,6 +18,7 @@ mod walk;
 mod whole;
 
 pub use calls::is_meant;
+pub use casting::has_flag;
 pub use check::check_expression;
 pub use effects::pass_effect;
 pub use expressions::{pass_exp, pass_exps};
@@ -26,5 +27,6 @@ pub use given::{
 };
 pub use operands::{Test, goes, if_of};
 pub use site::{Site, can_name, may_name, may_name_member, may_name_type};
+pub use supers::{lists, own_interfaces};
 pub use walk::Walk;
 pub use whole::is_whole_static;

@@ -33,7 +33,7 @@ fn own_header<'a>(classes: &Classes<'a>) -> Option<&'a Header>
 }
 
 /// The interfaces that the class in which names stand lists.
-fn own_interfaces<'a>(classes: &Classes<'a>) -> &'a [ClassName]
+pub fn own_interfaces<'a>(classes: &Classes<'a>) -> &'a [ClassName]
     ensures interfaces { result.now ≡ interfaces_of classes.now.headers.now classes.now.from.now }
 {
     match own_header(classes) {
@@ -50,7 +50,7 @@ fn is_name(first: &ClassName, second: &ClassName) -> bool
 }
 
 /// Whether one of these names is a class.
-fn lists(names: &[ClassName], class: &ClassName) -> bool
+pub fn lists(names: &[ClassName], class: &ClassName) -> bool
     ensures lists { result ≡ list_any (λ listed. is_name listed class.now) names.now }
 {
     for listed in names {

@@ -124,7 +124,7 @@ fn method_of<'a>(
 }
 
 /// The method that a call means in a class or an array.
-fn chosen<'a>(
+pub fn chosen<'a>(
     classes: &'a Classes<'a>,
     receiver: &'a JType,
     through: Option<&'a JType>,
@@ -179,7 +179,7 @@ fn asked_for(
 }
 
 /// The kind by which an object's method is called that isn't static.
-fn object_kind(classes: &Classes<'_>, kind: &JType, one: ChosenMethod<'_>) -> InvokeKind
+pub fn object_kind(classes: &Classes<'_>, kind: &JType, one: ChosenMethod<'_>) -> InvokeKind
     ensures kind { view_kind result ≡ spec.object_kind classes.now.headers.now (view_type kind.now) (view_chosen one.entry) }
 {
     if is_private(one.method.flags) {
@@ -206,7 +206,7 @@ fn object_kind(classes: &Classes<'_>, kind: &JType, one: ChosenMethod<'_>) -> In
 }
 
 /// How a method is called otherwise than by its class's name; a static one of an interface isn't.
-fn by_flags(
+pub fn by_flags(
     classes: &Classes<'_>,
     one: ChosenMethod<'_>,
     otherwise: InvokeKind,
