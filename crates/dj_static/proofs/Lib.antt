@@ -3,6 +3,7 @@ pub mod VisibleLemmas
 pub mod ListLemmas
 pub mod HeldLemmas
 pub mod ChosenLemmas
+mod MarkLemmas
 pub mod WalkLemmas
 pub mod FieldLemmas
 pub mod TargetLemmas

@@ -5,6 +5,7 @@
 
 mod classes;
 mod fields;
+mod marks;
 mod scope;
 mod targets;
 mod types;

@@ -9,6 +9,7 @@ ghost use Rattle.dj_values.specs.Deciding.{parents_of};
 ghost use Rattle.dj_static.specs.Walks.{own_at, meet, meet_named, meet_all, look, only, IsFieldAt, IsSole, owners_of};
 
 use crate::classes::{Classes, header_at, place_of};
+use crate::marks::Marks;
 use crate::visible::is_inherited;
 use dj_headers::Headers;
 use dj_members::{Picker, first_named};
@@ -65,27 +66,23 @@ pub fn own_field<'a>(classes: &Classes<'a>, place: usize, name: &Units) -> Optio
 /// Which places of headers were met, where it is still to be looked, and where a field was found.
 #[derive(Drop)]
 struct Walk {
-    met: Items<bool>,
+    met: Marks,
     waiting: Items<usize>,
     owners: Items<usize>,
 }
 
 impl Walk {
     /// Nothing is met of so many places.
-    fn new(alloc: Global, count: usize) -> Result<Walk, AllocError>
-        ensures met { IfOk result (λ walk. walk.met ≡ replicate count false) }
-        ensures waiting { IfOk result (λ walk. walk.waiting ≡ []) }
-        ensures owners { IfOk result (λ walk. walk.owners ≡ []) }
+    fn new(alloc: Global, count: usize) -> Walk
+        ensures met { result.met ≡ replicate count false }
+        ensures waiting { result.waiting ≡ [] }
+        ensures owners { result.owners ≡ [] }
     {
-        let mut met = Items::new(alloc);
-        for _ in 0..count {
-            met.push(false)?;
-        }
-        Ok(Walk {
-            met,
+        Walk {
+            met: Marks::none(alloc, count),
             waiting: Items::new(alloc),
             owners: Items::new(alloc),
-        })
+        }
     }
 
     /// Meets a place, if it is there and wasn't met before.
@@ -95,11 +92,11 @@ impl Walk {
         match self.met.get(place) {
             None => Ok(()),
             Some(met) => {
-                if *met {
+                if met {
                     return Ok(());
                 }
                 self.waiting.push(place)?;
-                self.met.set(place, true);
+                self.met.mark(place)?;
                 Ok(())
             }
         }
@@ -198,7 +195,7 @@ pub fn sole_owner(
     ensures owner { IfOk result (λ owner. MatchOption owner (sole (owners_of classes.now.headers.now classes.now.members.now class.now name.now) ≡ None)
         (IsSole classes.now.headers.now (sole (owners_of classes.now.headers.now classes.now.members.now class.now name.now)))) }
 {
-    let mut walk = Walk::new(alloc, classes.headers.as_slice().len())?;
+    let mut walk = Walk::new(alloc, classes.headers.as_slice().len());
     walk.meet_named(classes.headers, class)?;
     while let Some(place) = walk.waiting.pop() {
         walk.look(classes, class, name, place)?;

@@ -7,11 +7,11 @@ use Rattle.dj_static.proofs.walks.sole_owner.Goals as goal
 
 pub loop-place-init : goal.loop-place-init
 loop-place-init c =
-    let walk = c.in_ok-walk.walk in
+    let walk = c.new-walk.result in
     let headers = c.args.classes.now.headers.now in
     rw c.in_ok-meet_named.ensures.ok
-    (started headers c.args.classes.now.members.now c.args.class.now c.args.name.now c.as_slice.ensures.distinct walk (ap length c.in_ok-walk.ensures.met ∙ length-replicate _ _ ∙ ap length c.as_slice.ensures.headers)
-    (λ p met. none_met _ p (ap (λ (marks : List Bool). slice_get marks p) (sym c.in_ok-walk.ensures.met) ∙ met)) c.in_ok-walk.ensures.waiting c.in_ok-walk.ensures.owners)
+    (started headers c.args.classes.now.members.now c.args.class.now c.args.name.now c.as_slice.ensures.distinct walk (ap length c.new-walk.ensures.met ∙ length-replicate _ _ ∙ ap length c.as_slice.ensures.headers)
+    (λ p met. none_met _ p (ap (λ (marks : List Bool). slice_get marks p) (sym c.new-walk.ensures.met) ∙ met)) c.new-walk.ensures.waiting c.new-walk.ensures.owners)
 
 pub loop-place-smaller : goal.loop-place-smaller
 loop-place-smaller c =
