@@ -134,7 +134,7 @@ fn choose_among(asked: &Asked<'_>) -> Option<Member>
 }
 
 /// The class in which the methods of a type are searched for; before there is a header there is none.
-fn searched_class<'a>(headers: &'a Headers, receiver: &'a JType) -> Option<&'a ClassName>
+pub fn searched_class<'a>(headers: &'a Headers, receiver: &'a JType) -> Option<&'a ClassName>
     ensures some { IfSome result (λ class. searched_class (view_type receiver.now) ≡ Some class.now) }
     ensures none { IfNone result ((searched_class (view_type receiver.now) ≡ None) ⊎ (headers.now ≡ [])) }
 {

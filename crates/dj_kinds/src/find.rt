@@ -2,12 +2,13 @@
 
 ghost use Rattle.std.specs.Prelude.{◌≡◌};
 ghost use Rattle.dj_names.specs.declared.members.Member.{Member};
-ghost use Rattle.dj_names.specs.Types.{view_type, view_descriptor};
+ghost use Rattle.dj_names.specs.Types.{view_type, view_types, view_descriptor};
+ghost use Rattle.dj_kinds.specs.Own.{Counts};
 ghost use Rattle.dj_kinds.specs.Found.{IsFoundBy, IsFoundMethod, IsFoundField};
 ghost use Rattle.dj_kinds.specs.Search.{FindsOne};
 
 use crate::own::{OwnField, OwnMethod};
-use crate::pickers::{MethodPicker, Signature};
+use crate::pickers::{MethodPicker, Overload, Signature};
 use crate::search::{find, find_by_class, find_upward};
 use dj_headers::Headers;
 use dj_members::MemberTable;
@@ -39,6 +40,20 @@ pub fn find_picked<P: MethodPicker>(
     } else {
         find(headers, &methods, class)
     }
+}
+
+/// The first method of this name and these parameters in the order of search, by which one counts in a class.
+pub fn find_overload(
+    headers: &Headers,
+    members: &MemberTable,
+    class: &ClassName,
+    name: &Units,
+    parameters: &[JType],
+) -> Option<Member>
+    ensures found { FindsOne (IsFoundBy (Counts name.now (view_types parameters.now)) headers.now members.now class.now name.now) result }
+{
+    let picker = Overload { name, parameters };
+    find_picked(headers, members, class, name, &picker)
 }
 
 /// The method that is found from a class, if any is.

@@ -16,8 +16,9 @@ mod seen;
 mod types;
 
 pub use access::is_accessible;
-pub use choice::choose;
+pub use candidates::{Asked, is_candidate};
+pub use choice::{choose, searched_class};
 pub use dj_members::MemberTable;
-pub use find::{find_field, find_method};
+pub use find::{find_field, find_method, find_overload};
 pub use kinds::Kinds;
 pub use types::is_same_descriptor;

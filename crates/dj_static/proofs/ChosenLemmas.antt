@@ -183,7 +183,7 @@ module _ (headers : List Header) (members : List ClassMembers) where
     had Own (class ∷ classes) member (inr later) = let rest = had Own classes member later.1 in (rest.0, inr rest.1, rest.2)
 
     -- the method that is found first has the name and the types that are wanted
-    named_so : (wanted : List JType) (member : Member) (method : MethodHead) → Firsts wanted member → IsMethodAt members member method → (method.name ≡ call.name) × (parameters method ≡ wanted)
+    pub named_so : (wanted : List JType) (member : Member) (method : MethodHead) → Firsts wanted member → IsMethodAt members member method → (method.name ≡ call.name) × (parameters method ≡ wanted)
     named_so wanted member method first at =
         let own = had (HasOwnMethod headers members (Counts call.name wanted) call.class) searched member first in
         let it = counted wanted (IsSeen headers call.class own.0) own.2.declared.methods member.number own.2.picked in

@@ -16,8 +16,8 @@ pub use classes::{Classes, superclass_of};
 pub use fields::{Selection, constant_of, is_of_class, named_field, selected};
 pub use scope::Scope;
 pub use targets::{
-    ChosenMethod, Target, by_flags, chosen, object_kind, of_class, of_construct, of_new, of_object,
-    of_super,
+    ChosenMethod, Target, by_flags, method_of, object_kind, of_class, of_construct, of_new,
+    of_object, of_super,
 };
 pub use types::{array_of, element_of, is_floating_pair, plain_type_of, type_of, types_of};
 pub use visible::is_interface;

@@ -102,7 +102,7 @@ fn constructor_name(alloc: Global) -> Result<Units, AllocError>
 }
 
 /// The method that a member is, and its class.
-fn method_of<'a>(
+pub fn method_of<'a>(
     headers: &'a [Header],
     members: &'a MemberTable,
     member: Member,
@@ -124,7 +124,7 @@ fn method_of<'a>(
 }
 
 /// The method that a call means in a class or an array.
-pub fn chosen<'a>(
+fn chosen<'a>(
     classes: &'a Classes<'a>,
     receiver: &'a JType,
     through: Option<&'a JType>,
