@@ -1,0 +1,11 @@
+-- Lemmas, in reading order.
+pub mod Showing
+mod Asking
+mod FieldLemmas
+mod MethodLemmas
+mod AboveLemmas
+mod JudgingLemmas
+mod LackingLemmas
+mod OneWay
+mod ExactlyLemmas
+mod StoreLemmas

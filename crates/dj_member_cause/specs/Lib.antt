@@ -1,0 +1,5 @@
+-- What the public contracts rest on, in reading order.
+pub mod Lawful
+pub mod Lacking
+pub mod Shown
+pub mod Deciding
