@@ -1,6 +1,7 @@
 -- The first instruction that lacks its member, found by going through instructions whose offsets rise, with the frames before them.
-use Rattle.std.proofs.Common.{◌≡◌, ℕ, zero, suc, ◌+◌, ◌≤◌, ◌<◌, List, [], ◌∷◌, length, drop, Option, Some, None, refl, sym, ap, ◌∙◌, subst, inl, inr, arith, ne_eqb}
-use Rattle.std.specs.Prelude.{Bool, map, IfSome, MatchOption, slice_get, slice_index_or, option_map}
+use Rattle.std.proofs.Common.{◌≡◌, ℕ, zero, suc, ◌+◌, ◌≤◌, ◌<◌, List, [], ◌∷◌, length, drop, Option, Some, refl, sym, ap, ◌∙◌, subst, inl, inr, arith, ne_eqb, true, false}
+use Rattle.std.specs.Prelude.{Bool, map, MatchOption, slice_get, slice_index_or, option_map}
+use Rattle.std.proofs.lemmas.Bool.{true≢false}
 use Rattle.std.proofs.lemmas.Bool.Decides.{eqb_tells}
 use Rattle.std.proofs.lemmas.List.{length-map}
 use Rattle.std.proofs.lemmas.Option.{none-some, same_Some, slice_get-map, slice_get-get_or}
@@ -18,11 +19,12 @@ use Rattle.dj_code.specs.MethodCode.{Typed, view_typed}
 use Rattle.dj_code.specs.Targets.{IsLeast}
 use Rattle.dj_static.specs.declared.classes.Classes.{Classes}
 use Rattle.dj_receivers.specs.Receivers.{IsOnThis}
-use Rattle.dj_receivers.specs.Marked.{AreOnThis}
 use Rattle.dj_code_causes.specs.Places.{IsPlace}
 use Rattle.dj_member_cause.specs.Lawful.{HasMember}
 use Rattle.dj_member_cause.specs.Lacking.{LacksMember}
+use Rattle.dj_member_cause.specs.declared.known.Known.{Known}
 use Rattle.dj_member_cause.specs.Deciding.{LacksAt, LacksIn}
+use Rattle.dj_member_cause.specs.Telling.{IsThereAt, LacksByPlace, IsKnown}
 
 module _ (Lacks : ℕ → Instruction → Frame → Type 0) where
   -- the instruction at a pc lacks
@@ -91,11 +93,6 @@ module _ (Lacks : ℕ → Instruction → Frame → Type 0) where
   no_frame_left all all_frames [] left pc one = left.to pc one
   no_frame_left all all_frames (at ∷ rest) left pc one = left.to pc one
 
--- what is kept while the instructions of a method are gone through
-pub record Going (classes : Classes) (typed : Typed) (left : Instructions) (frames : List Frame) (calls : Option (List Bool)) : Type 0 where
-  pub are_left : IsLeft (LacksAt classes typed) typed.code.instructions typed.frames left frames
-  pub known : IfSome calls (AreOnThis typed)
-
 -- a list from one of its places on
 drop_at : {A : Type 0} (xs : List A) (place : ℕ) (x : A) → slice_get xs place ≡ Some x → drop place xs ≡ x ∷ drop (place + 1) xs
 drop_at [] place x is = absurd (none-some x is)
@@ -120,25 +117,25 @@ module _ (classes : Classes) (typed : code_typed.Typed) where
   abbrev seen : Typed
   seen = view_typed typed
 
-  -- so from a place on
-  abbrev pub GoingAt : ℕ → Option (List Bool) → Type 0
-  GoingAt place calls = Going classes seen (drop place seen.code.instructions) (drop place seen.frames) calls
+  -- those from a place on are left
+  abbrev pub GoingAt : ℕ → Type 0
+  GoingAt place = IsLeft (LacksAt classes seen) seen.code.instructions seen.frames (drop place seen.code.instructions) (drop place seen.frames)
 
-  pub going_begins : IsRising seen.code.instructions → GoingAt 0 None
-  going_begins rising = record { are_left = left_first (LacksAt classes seen) seen.code.instructions seen.frames rising; known = tt }
+  pub going_begins : IsRising seen.code.instructions → GoingAt 0
+  going_begins rising = left_first (LacksAt classes seen) seen.code.instructions seen.frames rising
 
-  module _ (place : ℕ) (calls : Option (List Bool)) (going : GoingAt place calls) where
+  module _ (place : ℕ) (going : GoingAt place) where
     pub none_behind : length typed.code.instructions ≤ place → (pc : ℕ) → ¬ LacksIn classes seen pc
     none_behind past =
         none_left (LacksAt classes seen) seen.code.instructions seen.frames (drop place seen.frames)
         (subst (λ left. IsLeft (LacksAt classes seen) seen.code.instructions seen.frames left (drop place seen.frames))
-        (drop_past seen.code.instructions place (subst (λ n. n ≤ place) (sym (length-map typed.code.instructions (λ (at : ℕ × declared.Instruction). (at.0, view_instruction at.1)))) past)) going.are_left)
+        (drop_past seen.code.instructions place (subst (λ n. n ≤ place) (sym (length-map typed.code.instructions (λ (at : ℕ × declared.Instruction). (at.0, view_instruction at.1)))) past)) going)
 
     pub no_frame : length typed.frames ≤ place → (pc : ℕ) → ¬ LacksIn classes seen pc
     no_frame past =
         no_frame_left (LacksAt classes seen) seen.code.instructions seen.frames (drop place seen.code.instructions)
         (subst (λ frames. IsLeft (LacksAt classes seen) seen.code.instructions seen.frames (drop place seen.code.instructions) frames)
-        (drop_past seen.frames place (subst (λ n. n ≤ place) (sym (length-map typed.frames view_frame)) past)) going.are_left)
+        (drop_past seen.frames place (subst (λ n. n ≤ place) (sym (length-map typed.frames view_frame)) past)) going)
 
     module _ (at : ℕ × declared.Instruction) (frame : code_frame.Frame) (at_is : slice_get typed.code.instructions place ≡ Some at) (frame_is : slice_get typed.frames place ≡ Some frame) where
       abbrev now : ℕ × Instruction
@@ -150,7 +147,7 @@ module _ (classes : Classes) (typed : code_typed.Typed) where
           (drop_at seen.frames place (view_frame frame) (slice_get-map view_frame typed.frames place ∙ ap (option_map view_frame) frame_is))
           (subst (λ left. IsLeft (LacksAt classes seen) seen.code.instructions seen.frames left (drop place seen.frames))
           (drop_at seen.code.instructions place now
-          (slice_get-map (λ (one : ℕ × declared.Instruction). (one.0, view_instruction one.1)) typed.code.instructions place ∙ ap (option_map (λ (one : ℕ × declared.Instruction). (one.0, view_instruction one.1))) at_is)) going.are_left)
+          (slice_get-map (λ (one : ℕ × declared.Instruction). (one.0, view_instruction one.1)) typed.code.instructions place ∙ ap (option_map (λ (one : ℕ × declared.Instruction). (one.0, view_instruction one.1))) at_is)) going)
 
       pub there_now : instruction_at seen.code.instructions at.0 ≡ Some (view_instruction at.1)
       there_now = here_at (LacksAt classes seen) seen.code.instructions seen.frames now (drop (place + 1) seen.code.instructions) (view_frame frame) (drop (place + 1) seen.frames) left_now
@@ -158,11 +155,39 @@ module _ (classes : Classes) (typed : code_typed.Typed) where
       pub found_now : LacksAt classes seen at.0 (view_instruction at.1) (view_frame frame) → IsLeast (LacksIn classes seen) at.0
       found_now lacks = least_here (LacksAt classes seen) seen.code.instructions seen.frames now (drop (place + 1) seen.code.instructions) (view_frame frame) (drop (place + 1) seen.frames) left_now lacks
 
-      pub goes_on : ¬ LacksAt classes seen at.0 (view_instruction at.1) (view_frame frame) → (new : Option (List Bool)) → IfSome new (AreOnThis seen) → GoingAt (place + 1) new
-      goes_on none new known = record {
-        are_left = left_behind (LacksAt classes seen) seen.code.instructions seen.frames now (drop (place + 1) seen.code.instructions) (view_frame frame) (drop (place + 1) seen.frames) left_now none;
-        known = known;
-      }
+      pub goes_on : ¬ LacksAt classes seen at.0 (view_instruction at.1) (view_frame frame) → GoingAt (place + 1)
+      goes_on none = left_behind (LacksAt classes seen) seen.code.instructions seen.frames now (drop (place + 1) seen.code.instructions) (view_frame frame) (drop (place + 1) seen.frames) left_now none
+
+-- an item at a place of a list
+pub there_is : {A : Type 0} (xs : List A) (place : ℕ) → place < length xs → (x : A) × (slice_get xs place ≡ Some x)
+there_is [] place within = absurd (omega (arith, within))
+there_is (x ∷ xs) zero within = (x, refl)
+there_is (x ∷ xs) (suc place) within = there_is xs place (omega (arith, within))
+
+-- what is kept, with what was told of the instructions before
+pub record GoingOn (classes : Classes) (typed : code_typed.Typed) (place : ℕ) (known : Known) : Type 0 where
+  pub going : GoingAt classes typed place
+  pub known_so : IsKnown classes typed place known
+
+module _ (classes : Classes) (typed : code_typed.Typed) (place : ℕ) (known : Known) (on : GoingOn classes typed place known) where
+  pub none_more : length typed.code.instructions ≤ place → (pc : ℕ) → ¬ LacksIn classes (view_typed typed) pc
+  none_more = none_behind classes typed place on.going
+
+  pub no_more_frames : length typed.frames ≤ place → (pc : ℕ) → ¬ LacksIn classes (view_typed typed) pc
+  no_more_frames = no_frame classes typed place on.going
+
+  module _ (framed : place < length typed.frames) where
+    pub is_there : IsThereAt typed place
+    is_there at at_is = let it = there_is typed.frames place framed in there_now classes typed place on.going at it.0 at_is it.1
+
+    module _ (at : ℕ × declared.Instruction) (at_is : slice_get typed.code.instructions place ≡ Some at) (lacks : Bool) (told : LacksByPlace classes typed place lacks) where
+      pub found_first : lacks ≡ true → IsLeast (LacksIn classes (view_typed typed)) at.0
+      found_first is = let it = there_is typed.frames place framed in found_now classes typed place on.going at it.0 at_is it.1 ((told at it.0 at_is it.1).0 is)
+
+      pub further : lacks ≡ false → (new : Known) → IsKnown classes typed (place + 1) new → GoingOn classes typed (place + 1) new
+      further is new known_new =
+          let it = there_is typed.frames place framed in
+          record { going = goes_on classes typed place on.going at it.0 at_is it.1 (λ one. true≢false (sym ((told at it.0 at_is it.1).1 one) ∙ is)); known_so = known_new }
 
 -- ---- the classes of a world
 

@@ -9,3 +9,4 @@ mod LackingLemmas
 mod OneWay
 mod ExactlyLemmas
 mod StoreLemmas
+mod TellingLemmas

@@ -3,3 +3,4 @@ pub mod Lawful
 pub mod Lacking
 pub mod Shown
 pub mod Deciding
+pub mod Telling

@@ -33,7 +33,7 @@ pub enum Judgement {
 
 /// What an instruction names, and what it does there.
 #[derive(Clone, Copy)]
-enum Named<'a> {
+pub enum Named<'a> {
     ReadStatic(&'a FieldRef),
     WriteStatic(&'a FieldRef),
     Read(&'a FieldRef),
@@ -46,7 +46,7 @@ enum Named<'a> {
 }
 
 /// What an instruction names.
-fn names_of(instruction: &Instruction) -> Named<'_>
+pub fn names_of(instruction: &Instruction) -> Named<'_>
     ensures named { IsNamedBy (view_instruction instruction.now) result }
 {
     match instruction {

@@ -1,18 +1,19 @@
 //! The instructions of a method whose member Java can't name as they do.
 
-ghost use Rattle.std.specs.Prelude.{◌≡◌, ◌↔◌, ℕ, Some, IsTrue, IfOk, OnOk, IfSome, MatchOption};
-ghost use Rattle.dj_instructions.specs.Instructions.{IsRising, view_instruction, view_instructions, instruction_at, InvokeSpecial, MethodRef};
+ghost use Rattle.std.specs.Prelude.{◌≡◌, ◌↔◌, ℕ, ◌+◌, ◌<◌, length, Some, IsTrue, IfOk, OnOk, IfSome, MatchOption};
+ghost use Rattle.dj_instructions.specs.Instructions.{IsRising, view_instructions, instruction_at, InvokeSpecial, MethodRef};
 ghost use Rattle.dj_code.specs.MethodCode.{view_typed};
 ghost use Rattle.dj_code.specs.Targets.{IsLeast};
-ghost use Rattle.dj_frames.specs.Frames.{view_frame};
 ghost use Rattle.dj_receivers.specs.Marked.{AreOnThis};
 ghost use Rattle.dj_receivers.specs.Receivers.{IsOnThis};
 ghost use Rattle.dj_world.specs.Clashes.{IsLawful};
 ghost use Rattle.dj_member_cause.specs.Lacking.{LacksMember};
-ghost use Rattle.dj_member_cause.specs.Deciding.{LacksIn, LacksAt};
+ghost use Rattle.dj_member_cause.specs.Deciding.{LacksIn};
+ghost use Rattle.dj_member_cause.specs.Telling.{IsThereAt, LacksByPlace, IsKnown};
 
-use crate::judging::{Judgement, judge};
-use dj_code::{Frame, Instruction, Typed};
+use crate::judging::Judgement;
+use crate::known::{Known, tell};
+use dj_code::Typed;
 use dj_names::Items;
 use dj_receivers::{calls_on_this, is_on_this};
 use dj_static::Classes;
@@ -42,27 +43,30 @@ fn is_call_on_this(
     }
 }
 
-/// Whether an instruction lacks its member.
+/// Whether the instruction at a place lacks its member.
 fn lacks(
     alloc: Global,
     classes: &Classes<'_>,
     typed: &Typed,
-    at: &(u32, Instruction),
-    frame: &Frame,
-    calls: &mut Option<Items<bool>>,
+    place: usize,
+    known: &mut Known,
 ) -> Result<bool, AllocError>
     requires lawful { IsLawful classes.now.headers.now }
     requires rising { IsRising (view_instructions typed.now.code.instructions) }
-    requires there { instruction_at (view_instructions typed.now.code.instructions) at.now.0 ≡ Some (view_instruction at.now.1) }
-    requires known { IfSome calls.old (AreOnThis (view_typed typed.now)) }
-    ensures known { OnOk result (IfSome calls.new (AreOnThis (view_typed typed.now))) }
-    ensures lacks { IfOk result (λ lacks. IsTrue lacks ↔ LacksAt classes.now (view_typed typed.now) at.now.0 (view_instruction at.now.1) (view_frame frame.now)) }
+    requires within { place < length typed.now.code.instructions }
+    requires framed { place < length typed.now.frames }
+    requires there { IsThereAt typed.now place }
+    requires known { IsKnown classes.now typed.now place known.old }
+    ensures known { OnOk result (IsKnown classes.now typed.now (place + 1) known.new) }
+    ensures lacks { IfOk result (LacksByPlace classes.now typed.now place) }
 {
-    match judge(alloc, classes, &at.1, frame)? {
+    let told = tell(alloc, classes, typed, place, known)?;
+    match told {
         Judgement::Has => Ok(false),
         Judgement::Lacks => Ok(true),
         Judgement::OnThis => {
-            let is = is_call_on_this(alloc, typed, at.0, calls)?;
+            let at = &typed.code.instructions.as_slice()[place];
+            let is = is_call_on_this(alloc, typed, at.0, &mut known.calls)?;
             Ok(!is)
         }
     }
@@ -76,14 +80,13 @@ fn first_in(alloc: Global, classes: &Classes<'_>, typed: &Typed) -> Result<Optio
 {
     let instructions = typed.code.instructions.as_slice();
     let frames = typed.frames.as_slice();
-    let mut calls = None;
+    let mut known = Known::new(alloc);
     for place in 0..instructions.len() {
         if place >= frames.len() {
             return Ok(None);
         }
         let at = &instructions[place];
-        let frame = &frames[place];
-        let lacks = lacks(alloc, classes, typed, at, frame, &mut calls)?;
+        let lacks = lacks(alloc, classes, typed, place, &mut known)?;
         if lacks {
             return Ok(Some(at.0));
         }

@@ -7,6 +7,7 @@ mod above;
 mod exactly;
 mod fields;
 mod judging;
+mod known;
 mod lacking;
 mod methods;
 
