@@ -142,7 +142,7 @@ fn begins(stack: &Stack, takes: &[u8]) -> bool
 }
 
 /// The first form that fits the stack.
-fn form_of<'a>(stack: &Stack, forms: &'a [Form]) -> Option<&'a Form>
+pub fn form_of<'a>(stack: &Stack, forms: &'a [Form]) -> Option<&'a Form>
     ensures first { option_map view_form (option_copied result) ≡ form_of (map view_form forms.now) (map moved_words (view_tags stack.now)) }
 {
     for form in forms {

@@ -12,3 +12,4 @@ mod special;
 mod taking;
 
 pub use applying::{apply, locals_needed};
+pub use forms::{DUP, DUP_X1, DUP_X2, DUP2, DUP2_X1, DUP2_X2, Form, POP, POP2, SWAP, form_of};

@@ -16,7 +16,11 @@ mod ways;
 mod written;
 
 pub use birth::{Birth, births};
+pub use calls::{Met, calls_met, ended};
 pub use control::{Control, can_throw, control_of};
+pub use marks::{is_marked, mark, mark_all, no_marks};
 pub use reach::reached;
-pub use starts::block_starts;
-pub use ways::{Edge, edges};
+pub use roles::{Role, first_role, role_of};
+pub use starts::{block_starts, frames_from, in_range};
+pub use walk::barred_from;
+pub use ways::{Edge, edges, push_targets};

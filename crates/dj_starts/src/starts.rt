@@ -20,7 +20,7 @@ use dj_names::Items;
 use std::alloc::{AllocError, Global};
 
 /// Whether the range of some entry has the pc.
-fn in_range(handlers: &[Handler], pc: u32) -> bool
+pub fn in_range(handlers: &[Handler], pc: u32) -> bool
     ensures range { result ≡ spec.in_range handlers.now pc }
 {
     handlers.iter().any(|handler| covers(handler, pc))

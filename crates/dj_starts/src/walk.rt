@@ -48,7 +48,7 @@ fn drop_from(low: u32, numbers: &mut Items<u32>) -> bool
 }
 
 /// From which `new` on births can't go on behind an instruction, None where all can.
-fn barred_from(before: Role, here: Role, behind: Role, ended: Option<u32>) -> Option<u32>
+pub fn barred_from(before: Role, here: Role, behind: Role, ended: Option<u32>) -> Option<u32>
     ensures barred { result ≡ spec.barred_from before here behind ended }
 {
     match here {

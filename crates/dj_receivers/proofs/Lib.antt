@@ -1,0 +1,5 @@
+-- Lemmas, in reading order.
+pub mod Turned
+pub mod Fixed
+pub mod Sources
+pub mod Lowering

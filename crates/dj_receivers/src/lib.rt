@@ -1,0 +1,13 @@
+//! On which calls the receiver is `this`, on each way by which control comes there (JLS 15.12.4.1).
+//! It stands on `dj_starts` for the ways of control, on `dj_applying` and `dj_effects` for what instructions do to the stack, and on `dj_code` for code.
+//! The layers above use `place_of`, `pass_of`, `form_at` and `calls_own`, and speak of `IsOnThis`.
+#![tactic(auto)]
+
+mod own_calls;
+mod passing;
+mod places;
+
+pub use dj_applying::Form;
+pub use own_calls::{calls_own, is_on_begun, special_of};
+pub use passing::{Pass, count_of, form_at, pass_of};
+pub use places::place_of;
