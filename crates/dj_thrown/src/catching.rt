@@ -81,7 +81,7 @@ pub fn may_all_catch(
 }
 
 /// Whether a class may be thrown out of a method that declares these.
-fn may_escape(
+pub fn may_escape(
     kinds: &Kinds<'_>,
     headers: &Headers,
     declared: &[ClassName],

@@ -12,5 +12,7 @@ mod statements;
 mod throwing;
 mod walk;
 
+pub use catching::may_escape;
 pub use check::{check_thrown, throws};
+pub use listed::{class_listed, construct_listed, new_listed, object_listed};
 pub use throwing::Throwing;

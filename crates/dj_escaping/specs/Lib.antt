@@ -1,0 +1,2 @@
+-- What the public contract rests on.
+pub mod Escaping
