@@ -1,19 +1,18 @@
 -- The first birth that is too long, found by going through births; and how many blocks there are.
-use Rattle.std.proofs.Common.{◌≡◌, ◌≢◌, ◌⊎◌, ◌↔◌, ℕ, suc, ◌+◌, ◌<◌, ◌≤◌, Bool, true, false, IsTrue, List, [], ◌∷◌, Contains, AllPairs, Option, Some, None, MatchOption, length, take, filter, map, get_or, refl, sym, ap, subst, inl, inr, ◌∙◌, arith}
+use Rattle.std.proofs.Common.{◌≡◌, ◌≢◌, ◌↔◌, ℕ, ◌+◌, ◌<◌, ◌≤◌, true, false, IsTrue, List, Contains, AllPairs, Option, Some, None, MatchOption, length, take, get_or, refl, sym, subst, inl, inr, arith}
 use Rattle.std.specs.Prelude.{IsSome}
-use Rattle.std.proofs.lemmas.Bool.{cases_lt, cases_Bool, both_ways}
+use Rattle.std.proofs.lemmas.Bool.{cases_lt}
 use Rattle.std.proofs.lemmas.Bool.Decides.{Decides-eqb}
 use Rattle.std.proofs.lemmas.Cmp.{nat_eq_equiv}
 use Rattle.std.proofs.lemmas.Map.Made.{length-le_from_is_member, IsDistinct-from_AllPairs, is_member-Decides}
 use Rattle.dj_instructions.specs.Instructions.{Instruction, Instructions, New, IsRising}
 use Rattle.dj_code.specs.MethodCode.{Typed}
 use Rattle.dj_starts.specs.declared.birth.Birth.{Birth}
-use Rattle.dj_starts.specs.Births.{IsOnlyCall, IsWritten, IsBirth}
-use Rattle.dj_starts.specs.Starts.{IsBlockStart}
+use Rattle.dj_starts.specs.Births.{IsWritten, IsBirth}
 use Rattle.dj_code.specs.Targets.{IsStart, IsLeast}
 use Rattle.dj_birth_causes.specs.OwnCalls.{IsOwnCall}
-use Rattle.dj_birth_causes.specs.Large.{most, told, size_of, HasBlocks, IsLongBirth, IsLongBeginning, IsLong, long_birth, long_beginning, IsFirstLong, IsTooMuch, many_blocks, long_expression}
-use Rattle.dj_birth_causes.specs.Births.{AreStarts, IsLongFrom, IsFirstLongBirth}
+use Rattle.dj_birth_causes.specs.Large.{most, size_of, HasBlocks, IsLongBirth, IsLongBeginning, IsLong, long_birth, long_beginning, IsFirstLong, IsTooMuch, many_blocks, long_expression}
+use Rattle.dj_birth_causes.specs.Births.{IsLongFrom, IsFirstLongBirth}
 use Rattle.dj_birth_causes.proofs.Unbearing.{any_default, earlier, decided, take_cases}
 use Rattle.dj_names.specs.MethodNames.{is_constructor}
 use Rattle.dj_receivers.specs.OwnCalls.{calls_own}

@@ -1,6 +1,6 @@
 -- How many instructions stand from one offset to another, by their places.
-use Rattle.std.proofs.Common.{◌≡◌, ◌⊎◌, ℕ, zero, suc, ◌+◌, ◌-◌, ◌<◌, ◌≤◌, ◌==◌, ◌&&◌, Bool, true, false, nat_le, List, [], ◌∷◌, Option, Some, None, length, filter, refl, sym, ap, subst, inl, inr, ◌∙◌, arith}
-use Rattle.std.specs.Prelude.{slice_index_or, if◌then◌else◌, IsSome, IsTrue}
+use Rattle.std.proofs.Common.{◌≡◌, ◌⊎◌, ℕ, zero, suc, ◌+◌, ◌<◌, ◌≤◌, ◌==◌, Bool, true, false, List, [], ◌∷◌, Option, Some, None, length, refl, sym, subst, inl, inr, ◌∙◌, arith}
+use Rattle.std.specs.Prelude.{slice_index_or, if◌then◌else◌, IsSome}
 use Rattle.std.proofs.lemmas.Bool.Decides.{nat_tests}
 use Rattle.dj_instructions.specs.declared.instruction.Instruction as declared
 use Rattle.dj_instructions.specs.declared.instruction.Instruction.TheVariants as variant
@@ -13,7 +13,6 @@ use Rattle.dj_starts.specs.Births.{Meets}
 use Rattle.dj_starts.proofs.PcLemmas.{at_least, from_start}
 use Rattle.dj_birth_causes.specs.OwnCalls.{StandsAt}
 use Rattle.dj_birth_causes.specs.Large.{is_in, size_of}
-use Rattle.dj_birth_causes.specs.Births.{AreStarts}
 
 abbrev Listed : Type 0
 Listed = List (ℕ × declared.Instruction)

@@ -1,5 +1,5 @@
 -- The first instruction that passes a test by the frame before it, found by going through instructions whose offsets rise.
-use Rattle.std.proofs.Common.{◌≡◌, ◌⊎◌, ◌↔◌, ℕ, ◌+◌, ◌≤◌, Bool, List, [], ◌∷◌, length, drop, get_or, map, IsTrue, refl, sym, ap, subst, inl, inr, arith}
+use Rattle.std.proofs.Common.{◌≡◌, ◌↔◌, ℕ, ◌+◌, ◌<◌, ◌≤◌, Bool, List, [], ◌∷◌, length, drop, get_or, map, IsTrue, refl, sym, ap, subst, inl, inr, arith}
 use Rattle.dj_instructions.specs.declared.instruction.Instruction as declared
 use Rattle.dj_instructions.specs.Instructions.{Instruction, Instructions, IsRising, IsRisingFrom, view_instruction, view_instructions}
 use Rattle.dj_frames.specs.declared.frame.Frame as code_frame
@@ -54,6 +54,12 @@ module _ (test : Instruction → Frame → Bool) where
         rising = begun.rising.1;
         same = λ pc. (λ one. elim ((begun.same pc).0 one) [ inl here ↦ absurd (none here.1) | inr there ↦ there ], λ one. (begun.same pc).1 (inr one));
       }
+
+      pub left_past : (last : ℕ) → last < at.0 → (pc : ℕ) → pc ≤ last → ¬ StandsAt test all frames pc
+      left_past last past pc low one = elim ((begun.same pc).0 one) [
+        | inl here ↦ (let same = here.0 in omega (arith, same, past, low))
+        | inr there ↦ (let further = above (at.0 + 1) (view_instructions (drop 1 left)) (map view_frame (drop 1 before)) begun.rising.1 pc there in omega (arith, further, past, low))
+      ]
 
       pub least_here : IsTrue (test (view_instruction at.1) (view_frame frame)) → IsLeast (StandsAt test all frames) at.0
       least_here passes = record {

@@ -2,6 +2,8 @@
 pub mod Comparisons
 pub mod Unborn
 pub mod OwnCalls
+pub mod Beginning
 pub mod Large
 -- What the functions inside the crate promise each other.
 pub mod Births
+pub mod Leasts

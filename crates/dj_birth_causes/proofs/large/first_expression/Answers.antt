@@ -1,6 +1,6 @@
 use Rattle.std.proofs.Common.{refl}
 use Rattle.dj_code.specs.MethodCode.{view_typed}
-use Rattle.dj_birth_causes.proofs.Lengthy.{first_of, first_beginning}
+use Rattle.dj_birth_causes.proofs.Lengthy.{first_of}
 use Rattle.dj_birth_causes.proofs.large.first_expression.Goals as goal
 
 pub returns : goal.returns

@@ -1,4 +1,4 @@
-use Rattle.std.proofs.Common.{refl, None, length, arith}
+use Rattle.std.proofs.Common.{refl, length, arith}
 use Rattle.dj_code.specs.MethodCode.{view_typed}
 use Rattle.dj_birth_causes.specs.Large.{many_blocks, long_expression}
 use Rattle.dj_birth_causes.proofs.Lengthy.{not_much}
