@@ -1,11 +1,11 @@
 -- Marks of which each that is missing is missing on some path, along the ways.
-use Rattle.std.proofs.Common.{◌≡◌, ◌↔◌, ℕ, Bool, List, [], ◌∷◌, length, Contains}
+use Rattle.std.proofs.Common.{◌↔◌, ℕ, Bool, List, [], ◌∷◌, length, Contains}
 use Rattle.dj_code.specs.MethodCode.{Typed}
 use Rattle.dj_starts.specs.declared.ways.Edge.{Edge}
 use Rattle.dj_starts.specs.Edges.{edges}
 use Rattle.dj_receivers.specs.Receivers.{marks_along, fitted, height_at, Arrives, begins, goes}
 use Rattle.dj_receivers.specs.Steps.{IsAt, IsBelow, Misses, IsLow}
-use Rattle.dj_receivers.proofs.Sources.{Source, Never, Always, From, Tells, IsFrom, sourced_along}
+use Rattle.dj_receivers.proofs.Sources.{Source, Never, Always, From, Tells, sourced_along}
 
 -- past the last mark there is none
 none_past : (marks : List Bool) → ¬ IsAt marks (length marks)

@@ -6,3 +6,4 @@ pub mod Passed
 pub mod Marked
 -- What the functions inside the crate promise each other.
 pub mod Steps
+pub mod Walks

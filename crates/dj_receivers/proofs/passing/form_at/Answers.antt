@@ -1,5 +1,4 @@
 use Rattle.std.proofs.Common.{◌≡◌, List, map, reverse, ap, ◌∙◌}
-use Rattle.std.specs.Option.{option_copied, option_map}
 use Rattle.dj_frames.specs.Frames.{Tag, view_tags}
 use Rattle.dj_effects.specs.Operands.{moved_words, form_of as first_form}
 use Rattle.dj_applying.specs.Done.{view_form}
