@@ -42,6 +42,17 @@ any_from_map P f (x ∷ xs) (suc k, y, within, is, holds) =
 pub gains_name : (old new : List Name) (name : Name) → new ≡ old ++ name ∷ [] → Gains old new (λ other. name ≡ other)
 gains_name old new name behind = subst (λ (names : List Name). Gains old names (λ other. name ≡ other)) (sym behind) (gains_one old name)
 
+-- names that are gained where there were none are just these
+just_these : (names : List Name) (P : Name → Type 0) → Gains [] names P → (name : Name) → Contains names name ↔ P name
+just_these names P gains name = (
+  λ has. elim ((gains.each name).0 has) [ inl none ↦ absurd (let within = none.1 in omega (arith, within)) | inr holds ↦ holds ],
+  λ holds. (gains.each name).1 (inr holds),
+)
+
+-- and so they are where they are put behind others, or those of them that are new
+pub gains_these : (old new names : List Name) (P : Name → Type 0) → Gains [] names P → Gains old new (Contains names) → Gains old new P
+gains_these old new names P gains more = gains_like old new (Contains names) P (just_these names P gains) more
+
 -- what stands above alike names is alike
 pub above_alike : (headers : List Header) (P Q : Name → Type 0) → ((name : Name) → P name ↔ Q name) → (all : List Name) → ((name : Name) → Contains all name ↔ IsAtOrAbove headers P name) → (name : Name) → Contains all name ↔ IsAtOrAbove headers Q name
 above_alike headers P Q like all above name = (

@@ -4,6 +4,7 @@
 #![tactic(auto)]
 
 mod instructions;
+mod named;
 mod names;
 
 pub use instructions::{first_dynamic, first_float, first_monitor};

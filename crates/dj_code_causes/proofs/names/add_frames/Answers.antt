@@ -1,18 +1,12 @@
-use Rattle.std.proofs.Common.{ℕ, arith}
-use Rattle.dj_frames.specs.declared.frame.Frame.{Frame}
+use Rattle.std.proofs.Common.{Any}
 use Rattle.dj_frames.specs.Frames.{view_frame}
+use Rattle.dj_sayable.proofs.GatheringLemmas.{gains_behind}
 use Rattle.dj_code_causes.specs.NamedIn.{IsInFrame}
-use Rattle.dj_names.specs.Headers.{Name}
-use Rattle.dj_causes.proofs.HeadLemmas.{gained_none, gained_more, gained_all}
+use Rattle.dj_code_causes.proofs.Naming.{gains_these}
 use Rattle.dj_code_causes.proofs.names.add_frames.Goals as goal
 
-pub loop-at-init : goal.loop-at-init
-loop-at-init c = gained_none (λ (name : Name) (at : ℕ × Frame). IsInFrame (view_frame at.1) name) c.args.frames.now c.args.names.now
-
-pub loop-at-preserved : goal.loop-at-preserved
-loop-at-preserved c =
-    gained_more (λ (name : Name) (at : ℕ × Frame). IsInFrame (view_frame at.1) name) c.args.frames.now c.loop-at.at-index c.at-item.result c.args.names.now c.loop-at.names c.add_frame.new.names (omega arith) c.at-item.is
-    c.loop-at.invariant c.in_ok-add_frame.ensures.gains
-
 pub returns : goal.returns
-returns c = record { gains = gained_all (λ (name : Name) (at : ℕ × Frame). IsInFrame (view_frame at.1) name) c.args.frames.now c.loop-at.at-index c.args.names.now c.loop-at.names (omega arith) c.loop-at.invariant }
+returns c = record {
+  gains = gains_these c.args.names.now c.add_all.new.names c.in_ok-found.found (λ name. Any (λ at. IsInFrame (view_frame at.1) name) c.args.frames.now) c.in_ok-found.ensures.names
+      (rw (rw c.as_slice.ensures at c.in_ok-add_all.ensures.behind) (gains_behind c.args.names.now c.in_ok-found.found));
+}
