@@ -10,7 +10,7 @@ use Rattle.dj_causes.specs.Firsts.{IsFirstCause}
 use Rattle.dj_causes.specs.BareCauses.{number_of}
 use Rattle.dj_code_causes.specs.Monitors.{HasMonitorAt}
 use Rattle.dj_method_causes.specs.MethodCauses.{HasCause, IsUnpairedYet}
-use Rattle.dj_method_causes.specs.Telling.{HoldsGiven, IsToldCause}
+use Rattle.dj_method_causes.specs.Telling.{HoldsGiven, HasNoCause, IsUntold, IsToldCause}
 
 -- the first instruction on a monitor, if there is one
 abbrev pub IsFirstMonitor : Typed → Option ℕ → Type 0
@@ -32,6 +32,10 @@ pub no_number : (found : Option ℕ) → found ≡ None → (pc : ℕ) → ¬ (f
 no_number found is pc also = absurd cc
 
 module _ (world : WorldOf) (class : ClassOf) (at : ℕ) (typed : Typed) where
+  -- where no cause is told of code without monitors it has none
+  pub no_cause : IsUntold world class at typed → ((pc : ℕ) → ¬ HasMonitorAt typed.code pc) → HasNoCause world class at typed
+  no_cause untold plain = record { early = untold.early; monitor = plain; births = untold.births plain }
+
   -- causes are alike but for what counts as unpaired
   alike : (First Second : Typed → ℕ → Type 0) → ((pc : ℕ) → First typed pc → Second typed pc) → (one : Cause) → HasCause First world class at typed one → HasCause Second world class at typed one
   alike First Second to (cause.Float pc) has = has
