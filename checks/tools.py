@@ -259,7 +259,7 @@ def a_world(case):
     expect(names == {*CORE, b"java/lang/Between", b"lib/B", b"lib/I"}, f"the world is {names}")
     status, text, report = case.run(case.program, "named files/A.class", "--world", "a world/LIST")
     expect(status == 1 and text.startswith("// A.java\n"), f"status {status}: {text}{report}")
-    expect(report == "A.m(Llib/Nowhere;)V notyet 0\n", f"the report is {report}")
+    expect(report == "A.m(Llib/Nowhere;)V refused Missing lib/Nowhere\n", f"the report is {report}")
 
 
 def words_of_the_script(case):

@@ -105,6 +105,7 @@ module _ (world : WorldOf) (class : ClassOf) where
     exp = exp;
     straight = printable.straight;
     verified = printable.verified;
+    free = printable.free;
     of_method = of_method;
     shows = straight_methods_show class before method exp body world.headers world.members printable.straight of_method;
     typed = straight_methods_are_typed class before method exp body world.headers world.members printable.straight of_method;

@@ -7,6 +7,7 @@ use Rattle.dj_syntax.specs.UnitText.{is_interface}
 use Rattle.dj_syntax.specs.WellFormed.{IsWellFormedExp}
 use Rattle.dj_causes.specs.declared.cause.FieldCause.{FieldCause}
 use Rattle.dj_causes.specs.FieldCauses.{IsFieldCause}
+use Rattle.dj_method_causes.specs.Telling.{HasNoCause}
 use Rattle.dj_class_text.specs.Formed.{FitBodies}
 use Rattle.dj_straight.specs.StraightMethod.{IsStraightMethod, IsBodyOf}
 use Rattle.dj_cli.specs.declared.methods.Finding.{Finding}
@@ -30,10 +31,11 @@ IsFieldLine world class at None = IsFieldCause world class at None
 IsFieldLine world class at (Some line) =
     IsSomeAnd (slice_get class.fields at) (λ field. (cause : FieldCause) × IsFieldCause world class at (Some cause) × (line_bytes class.this_class line ≡ field_line class field (Some cause)))
 
--- a straight method whose code is verified in the world, with its expression, well formed
+-- a straight method whose code is verified in the world, which has no cause, with its expression, well formed
 pub record IsPrintable (world : WorldOf) (class : ClassOf) (before : List MethodOf) (method : MethodOf) (exp : Exp) : Type 0 where
   pub straight : IsStraightMethod class before method exp
   pub verified : IsVerified world straight.code
+  pub free : HasNoCause world class (length before) (record { code = straight.code; frames = verified.frames })
   pub fits : IsWellFormedExp exp
 
 -- what is found of a method of a class, those before it given

@@ -10,7 +10,7 @@ use Rattle.dj_syntax.specs.UnitText.{unit_text}
 use Rattle.dj_syntax.specs.WellFormed.{IsWellFormed}
 use Rattle.dj_instructions.specs.declared.kinds.BadKind.{BadKind}
 use Rattle.dj_frames.specs.Frames.{Frame}
-use Rattle.dj_code.specs.MethodCode.{Code}
+use Rattle.dj_code.specs.MethodCode.{Code, Typed}
 use Rattle.dj_code.specs.ReadCode.{SpellsCode, FirstCodeFault}
 use Rattle.dj_tags.specs.Laxly.{Laxly}
 use Rattle.dj_verify.specs.declared.rule.Rule.{Rule}
@@ -26,6 +26,7 @@ use Rattle.dj_causes.specs.declared.cause.FieldCause.{FieldCause}
 use Rattle.dj_causes.specs.BareCauses.{HasBareCause, IsBareCause}
 use Rattle.dj_causes.specs.ClassCauses.{HasClassCause, IsClassCause}
 use Rattle.dj_causes.specs.FieldCauses.{IsFieldCause}
+use Rattle.dj_method_causes.specs.Telling.{HasNoCause, IsToldCause, IsUntold}
 use Rattle.dj_class_text.specs.ClassText.{IsClassText}
 use Rattle.dj_class_text.specs.Apart.{IsApart}
 use Rattle.dj_report.specs.Report.{line_text}
@@ -59,11 +60,12 @@ pub record IsVerified (world : WorldOf) (code : Code) : Type 0 where
   pub table : IsFrameTable (Laxly world.headers) world.headers code frames
 
 -- a straight method of a class whose code is verified in the world, and its body, which shows the same as its code at every bound, for all arguments that fit and all answers, on each machine that has the classes of the world as it has them, those of the table of core classes too that no file has, whatever others it loads beside them;
--- and the body is typed, where the world has the class and each above it, and the text of the class can say its name
+-- and the body is typed, where the world has the class and each above it, and the text of the class can say its name; and the method has no cause
 pub record PrintsMethod (world : WorldOf) (class : ClassOf) (before : List MethodOf) (method : MethodOf) (body : Body) : Type 0 where
   pub exp : Exp
   pub straight : IsStraightMethod class before method exp
   pub verified : IsVerified world straight.code
+  pub free : HasNoCause world class (length before) (record { code = straight.code; frames = verified.frames })
   pub of_method : IsBodyOf class method exp body
   pub shows : SameShows world.headers world.members straight.code body
   pub typed : is_whole world.headers class.this_class ≡ true → CanBeSaid world.headers world.members class.this_class class.this_class → IsTyped world.headers world.members body
@@ -74,9 +76,20 @@ pub record IsBareMethod (world : WorldOf) (class : ClassOf) (at : ℕ) (method :
   pub free : (cause : Cause) → ¬ HasBareCause world class at cause
 
 -- the method at a place has no code, and this is its first cause
-pub record IsRefusedMethod (world : WorldOf) (class : ClassOf) (at : ℕ) (method : MethodOf) (cause : Cause) : Type 0 where
+pub record IsRefusedBare (world : WorldOf) (class : ClassOf) (at : ℕ) (method : MethodOf) (cause : Cause) : Type 0 where
   pub none : method.code ≡ None
   pub first : IsBareCause world class at (Some cause)
+
+-- the method at a place has code, which is verified in the world by these frames, and this is its first cause, as it is told
+pub record IsRefusedCode (world : WorldOf) (class : ClassOf) (at : ℕ) (method : MethodOf) (cause : Cause) : Type 0 where
+  pub typed : Typed
+  pub spelled : SpellsCode class method typed.code
+  pub table : IsFrameTable (Laxly world.headers) world.headers typed.code typed.frames
+  pub first : IsToldCause world class at typed (Some cause)
+
+-- the method at a place isn't printed, and this is its first cause
+abbrev pub IsRefusedMethod : WorldOf → ClassOf → ℕ → MethodOf → Cause → Type 0
+IsRefusedMethod world class at method cause = IsRefusedBare world class at method cause ⊎ IsRefusedCode world class at method cause
 
 -- a method has code that is none, and this is its first fault
 pub record IsBadMethod (class : ClassOf) (method : MethodOf) (kind : BadKind) (pc : ℕ) : Type 0 where
@@ -89,13 +102,17 @@ pub record IsUnverifiedMethod (world : WorldOf) (class : ClassOf) (method : Meth
   pub spelled : SpellsCode class method code
   pub first : IsFirstViolation (Laxly world.headers) world.headers code pc rule
 
--- a method isn't straight at this offset of its code, which is verified in the world
+-- a method isn't straight at this offset of its code, which is verified in the world by these frames, and no cause is told of it
 pub record IsNotYetMethod (world : WorldOf) (class : ClassOf) (before : List MethodOf) (method : MethodOf) (pc : ℕ) : Type 0 where
   pub some : IsSome method.code
   pub not_yet : IsNotYet class before method pc
   pub verified : (code : Code) → SpellsCode class method code → IsVerified world code
+  pub typed : Typed
+  pub spelled : SpellsCode class method typed.code
+  pub table : IsFrameTable (Laxly world.headers) world.headers typed.code typed.frames
+  pub untold : IsUntold world class (length before) typed
 
--- the verdict on a method of a class, those before it in the file given: it is printed, with a body or without, or it has no code and is refused, or its code is bad, or it isn't verified, or the method isn't straight at this offset of its code
+-- the verdict on a method of a class, those before it in the file given: it is printed, with a body or without, or it is refused for its first cause, or its code is bad, or it isn't verified, or the method isn't straight at this offset of its code
 abbrev pub IsVerdict : WorldOf → ClassOf → List MethodOf → MethodOf → Verdict → Type 0
 IsVerdict world class before method (Prints body) = PrintsMethod world class before method body
 IsVerdict world class before method Bare = IsBareMethod world class (length before) method

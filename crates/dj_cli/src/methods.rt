@@ -1,22 +1,26 @@
 //! What is found of the methods of a class.
 
-ghost use Rattle.std.specs.Prelude.{◌≡◌, ◌++◌, ◌∷◌, ◌<◌, [], List, None, IfOk, IsSome, OnOk, length, map, option_map};
+ghost use Rattle.std.specs.Prelude.{◌≡◌, ◌++◌, ◌∷◌, ◌<◌, [], List, None, IfOk, IsSome, OnOk, Some, length, map, option_map, slice_get};
 ghost use Rattle.dj_class.specs.Described.{MethodOf};
 ghost use Rattle.dj_class.specs.Views.{view_class, view_method};
 ghost use Rattle.dj_syntax.specs.Trees.{view_body};
 ghost use Rattle.dj_causes.specs.Tables.{AreCauses};
-ghost use Rattle.dj_code.specs.MethodCode.{view_code};
+ghost use Rattle.dj_frames.specs.Frames.{view_frame};
+ghost use Rattle.dj_code.specs.MethodCode.{view_code, view_typed};
 ghost use Rattle.dj_code.specs.ReadCode.{SpellsCode};
 ghost use Rattle.dj_world.specs.Worlds.{WorldOf};
 ghost use Rattle.dj_straight.specs.DeclaredMethods.{Holds};
-ghost use Rattle.dj_cli.specs.Output.{IsVerified};
+ghost use Rattle.dj_tags.specs.Laxly.{Laxly};
+ghost use Rattle.dj_verify.specs.Table.{IsFrameTable};
+ghost use Rattle.dj_method_causes.specs.Telling.{AreMethodCauses, IsUntold};
 ghost use Rattle.dj_cli.specs.Lines.{lines_bytes};
 ghost use Rattle.dj_cli.specs.Methods.{AreJudged, IsFound, IsToldOf};
 
 use crate::endings::{Ending, MemberLine, Subject, method_ending};
 use dj_causes::{Cause, Causes};
 use dj_class::{ClassFile, Method};
-use dj_code::{BadKind, Code, CodeFault, read_code_of};
+use dj_code::{BadKind, Code, CodeFault, Typed, read_code_of};
+use dj_method_causes::MethodCauses;
 use dj_names::Items;
 use dj_report::{bad_tail, not_yet_tail, unverified_tail};
 use dj_straight::{Declared, Judged, judge, returning_body};
@@ -41,7 +45,7 @@ enum Finding {
     Straight(Exp),
     /// It has no code, and is printed without.
     Bare,
-    /// It has no code, and this is its first cause.
+    /// This is its first cause; its code is verified, where it has some.
     Refused(Cause),
     /// Its code has this fault first, at this offset.
     Bad { pc: u32, kind: BadKind },
@@ -59,41 +63,77 @@ enum Told {
     Line(Ending),
 }
 
-/// What is found of a method that has this code where it is verified, and where the table holds those before it; it is
-/// put into the table.
-fn find_verified<'a>(
+/// What is found of a method that has this typed code, of which no cause is told, where the table holds those before it;
+/// it is put into the table.
+fn find_untold<'a>(
     alloc: Global,
     class: &ClassFile,
     declared: &mut Declared<'a>,
     method: &'a Method,
-    code: &Code,
+    typed: &Typed,
 ) -> Result<Finding, AllocError>
-    requires spelled { SpellsCode (view_class class.now) (view_method method.now) (view_code code.now) }
-    ensures found { IfOk result (λ found. (world : WorldOf) (before : List MethodOf) → IsVerified world (view_code code.now) → Holds declared.old before → IsFound world (view_class class.now) before (view_method method.now) found) }
+    requires spelled { SpellsCode (view_class class.now) (view_method method.now) (view_code typed.now.code) }
+    ensures found { IfOk result (λ found. (world : WorldOf) (before : List MethodOf) → IsFrameTable (Laxly world.headers) world.headers (view_code typed.now.code) (map view_frame typed.now.frames) → IsUntold world (view_class class.now) (length before) (view_typed typed.now)
+        → Holds declared.old before → IsFound world (view_class class.now) before (view_method method.now) found) }
     ensures declared { OnOk result ((before : List MethodOf) → Holds declared.old before → Holds declared.new (before ++ view_method method.now ∷ [])) }
 {
-    match judge(alloc, class, declared, method, code)? {
+    match judge(alloc, class, declared, method, &typed.code)? {
         Judged::Straight(exp) => Ok(Finding::Straight(exp)),
         Judged::NotYet(pc) => Ok(Finding::NotYet(pc)),
     }
 }
 
-/// What is found of a method that has this code, where the table holds those before it; it is put into the table.
+/// What is found of the method at a place, which has this typed code, where the table holds those before it; it is put
+/// into the table.
+fn find_verified<'a>(
+    alloc: Global,
+    world: &World,
+    class: &ClassFile,
+    causes: &MethodCauses,
+    declared: &mut Declared<'a>,
+    at: usize,
+    method: &'a Method,
+    typed: &Typed,
+) -> Result<Finding, AllocError>
+    requires made { AreMethodCauses world.now (view_class class.now) causes.now }
+    requires within { at < length class.now.methods }
+    requires here { slice_get (view_class class.now).methods at ≡ Some (view_method method.now) }
+    requires spelled { SpellsCode (view_class class.now) (view_method method.now) (view_code typed.now.code) }
+    requires table { IsFrameTable (Laxly world.now.headers) world.now.headers (view_code typed.now.code) (map view_frame typed.now.frames) }
+    ensures found { IfOk result (λ found. (before : List MethodOf) → length before ≡ at → Holds declared.old before → IsFound world.now (view_class class.now) before (view_method method.now) found) }
+    ensures declared { OnOk result ((before : List MethodOf) → Holds declared.old before → Holds declared.new (before ++ view_method method.now ∷ [])) }
+{
+    match causes.told_cause(alloc, world, class, at, typed)? {
+        Some(cause) => {
+            declared.admit(method)?;
+            Ok(Finding::Refused(cause))
+        }
+        None => find_untold(alloc, class, declared, method, typed),
+    }
+}
+
+/// What is found of the method at a place, which has this code, where the table holds those before it; it is put into the
+/// table.
 fn find_spelled<'a>(
     alloc: Global,
     world: &World,
     verifier: &Verifier,
     class: &ClassFile,
+    causes: &MethodCauses,
     declared: &mut Declared<'a>,
+    at: usize,
     method: &'a Method,
     code: Code,
 ) -> Result<Finding, AllocError>
+    requires made { AreMethodCauses world.now (view_class class.now) causes.now }
+    requires within { at < length class.now.methods }
+    requires here { slice_get (view_class class.now).methods at ≡ Some (view_method method.now) }
     requires spelled { SpellsCode (view_class class.now) (view_method method.now) (view_code code) }
-    ensures found { IfOk result (λ found. (before : List MethodOf) → Holds declared.old before → IsFound world.now (view_class class.now) before (view_method method.now) found) }
+    ensures found { IfOk result (λ found. (before : List MethodOf) → length before ≡ at → Holds declared.old before → IsFound world.now (view_class class.now) before (view_method method.now) found) }
     ensures declared { OnOk result ((before : List MethodOf) → Holds declared.old before → Holds declared.new (before ++ view_method method.now ∷ [])) }
 {
-    match verifier.check(alloc, world.headers(), &code) {
-        Ok(()) => find_verified(alloc, class, declared, method, &code),
+    match verifier.verify(alloc, world.headers(), code) {
+        Ok(typed) => find_verified(alloc, world, class, causes, declared, at, method, &typed),
         Err(VerifyFault::Unverified { pc, rule }) => {
             declared.admit(method)?;
             Ok(Finding::Unverified { pc, rule })
@@ -102,21 +142,29 @@ fn find_spelled<'a>(
     }
 }
 
-/// What is found of a method with code, where the table holds those before it; it is put into the table.
+/// What is found of the method at a place, which has code, where the table holds those before it; it is put into the
+/// table.
 fn find_coded<'a>(
     alloc: Global,
     world: &World,
     verifier: &Verifier,
     class: &ClassFile,
+    causes: &MethodCauses,
     declared: &mut Declared<'a>,
+    at: usize,
     method: &'a Method,
 ) -> Result<Finding, AllocError>
+    requires made { AreMethodCauses world.now (view_class class.now) causes.now }
+    requires within { at < length class.now.methods }
+    requires here { slice_get (view_class class.now).methods at ≡ Some (view_method method.now) }
     requires coded { IsSome method.now.code }
-    ensures found { IfOk result (λ found. (before : List MethodOf) → Holds declared.old before → IsFound world.now (view_class class.now) before (view_method method.now) found) }
+    ensures found { IfOk result (λ found. (before : List MethodOf) → length before ≡ at → Holds declared.old before → IsFound world.now (view_class class.now) before (view_method method.now) found) }
     ensures declared { OnOk result ((before : List MethodOf) → Holds declared.old before → Holds declared.new (before ++ view_method method.now ∷ [])) }
 {
     match read_code_of(alloc, class, method) {
-        Ok(code) => find_spelled(alloc, world, verifier, class, declared, method, code),
+        Ok(code) => find_spelled(
+            alloc, world, verifier, class, causes, declared, at, method, code,
+        ),
         Err(CodeFault::BadCode { pc, kind }) => {
             declared.admit(method)?;
             Ok(Finding::Bad { pc, kind })
@@ -151,18 +199,21 @@ fn find<'a>(
     verifier: &Verifier,
     class: &ClassFile,
     causes: &Causes,
+    coded: &MethodCauses,
     declared: &mut Declared<'a>,
     at: usize,
     method: &'a Method,
 ) -> Result<Finding, AllocError>
     requires made { AreCauses world.now (view_class class.now) causes.now }
+    requires coded { AreMethodCauses world.now (view_class class.now) coded.now }
     requires within { at < length class.now.methods }
+    requires here { slice_get (view_class class.now).methods at ≡ Some (view_method method.now) }
     ensures found { IfOk result (λ found. (before : List MethodOf) → length before ≡ at → Holds declared.old before → IsFound world.now (view_class class.now) before (view_method method.now) found) }
     ensures declared { OnOk result ((before : List MethodOf) → Holds declared.old before → Holds declared.new (before ++ view_method method.now ∷ [])) }
 {
     match &method.code {
         Some(_) => {
-            let found = find_coded(alloc, world, verifier, class, declared, method)?;
+            let found = find_coded(alloc, world, verifier, class, coded, declared, at, method)?;
             Ok(found)
         }
         None => {
@@ -201,16 +252,21 @@ fn judge_method<'a>(
     verifier: &Verifier,
     class: &ClassFile,
     causes: &Causes,
+    coded: &MethodCauses,
     declared: &mut Declared<'a>,
     at: usize,
     method: &'a Method,
 ) -> Result<Told, AllocError>
     requires made { AreCauses world.now (view_class class.now) causes.now }
+    requires coded { AreMethodCauses world.now (view_class class.now) coded.now }
     requires within { at < length class.now.methods }
+    requires here { slice_get (view_class class.now).methods at ≡ Some (view_method method.now) }
     ensures told { IfOk result (λ told. (before : List MethodOf) → length before ≡ at → Holds declared.old before → IsToldOf world.now (view_class class.now) before (view_method method.now) told) }
     ensures declared { OnOk result ((before : List MethodOf) → Holds declared.old before → Holds declared.new (before ++ view_method method.now ∷ [])) }
 {
-    let found = find(alloc, world, verifier, class, causes, declared, at, method)?;
+    let found = find(
+        alloc, world, verifier, class, causes, coded, declared, at, method,
+    )?;
     let told = told_of(alloc, class, method, found)?;
     Ok(told)
 }
@@ -229,6 +285,7 @@ pub fn judge_methods<'a>(
     let mut bodies = Items::new(alloc);
     let mut lines = Vec::new(alloc);
     let mut declared = Declared::new(alloc);
+    let coded = MethodCauses::new(alloc, world, class)?;
     let methods = class.methods.as_slice();
     for at in 0..methods.len() {
         let method = &methods[at];
@@ -238,6 +295,7 @@ pub fn judge_methods<'a>(
             verifier,
             class,
             causes,
+            &coded,
             &mut declared,
             at,
             method,

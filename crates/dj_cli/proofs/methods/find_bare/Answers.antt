@@ -1,4 +1,4 @@
-use Rattle.std.proofs.Common.{Some, None, sym, subst}
+use Rattle.std.proofs.Common.{Some, None, sym, subst, inl}
 use Rattle.dj_class.specs.Views.{view_class}
 use Rattle.dj_causes.specs.BareCauses.{IsBareCause}
 use Rattle.dj_cli.proofs.methods.find_bare.Goals as goal
@@ -7,10 +7,10 @@ pub returns-in-Some : goal.returns-in-Some
 returns-in-Some c =
     let first = rw c.in-Some.is at c.in_ok-cause.ensures.first in
     record {
-      found = λ before method here none. record {
+      found = λ before method here none. inl (record {
         none = none;
         first = subst (λ at. IsBareCause c.args.world.now (view_class c.args.class.now) at (Some c.in-Some.cause)) (sym here) first;
-      };
+      });
     }
 
 pub returns-in-None : goal.returns-in-None

@@ -6,10 +6,23 @@ use Rattle.dj_syntax.specs.Trees.{view_body}
 use Rattle.dj_cli.specs.Lines.{ending_bytes, lines_bytes}
 use Rattle.dj_cli.specs.Methods.{IsToldOf}
 use Rattle.dj_load.proofs.LoadingLemmas.{take_map_more}
+use Rattle.dj_cli.proofs.FindingLemmas.{seen_at}
 use Rattle.dj_cli.proofs.MethodsLemmas.{judged_bare, judged_body, judged_line}
 use Rattle.dj_cli.proofs.TellingLemmas.{lines_bytes-push}
 use Rattle.dj_cli.proofs.methods.judge_methods.Goals as goal
 use Rattle.dj_cli.proofs.methods.judge_methods.Goals.{in-Body+in_ok-push-in-Body, in-Bare+in_ok-push-in-Bare, in-Line+in_ok-push-in-Line+in_ok-push-in-Line-2}
+
+pub judge_method-requires : goal.judge_method-requires
+judge_method-requires c =
+    let items = c.args.class.now.methods in
+    let inside : c.loop-at.at < length c.as_slice-methods.result.now = omega arith in
+    let within : c.loop-at.at < length items = rw c.as_slice-methods.ensures at inside in
+    record {
+      made = c.requires.made;
+      coded = c.in_ok-coded.ensures.made;
+      within = within;
+      here = seen_at view_method items c.loop-at.at c.index-methods-at.result within (rw c.as_slice-methods.ensures at c.index-methods-at.is);
+    }
 
 pub loop-at-preserved : goal.loop-at-preserved
 loop-at-preserved c =
@@ -30,7 +43,7 @@ loop-at-preserved c =
     let lines = lines_bytes class.this_class c.loop-at.lines.items in
     record {
       holds = rw more (c.in_ok-body.ensures.declared front before.holds);
-      judged = elim c.match-branch-2.branch [
+      judged = elim c.match-branch-3.branch [
         | in-Body+in_ok-push-in-Body w ↦
             rw (more, w.bodies-is, w.in_ok-push-in-Body.ensures.ok, map_push (option_map view_body) c.loop-at.bodies (Some w.in-Body.body), w.lines-is)
             (judged_body world class front method bodies lines (length c.loop-at.lines.items) before.judged (view_body w.in-Body.body) (rw w.in-Body.is at told))
