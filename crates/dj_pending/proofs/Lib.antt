@@ -1,0 +1,10 @@
+pub mod Lists
+pub mod StackLemmas
+pub mod ShuffleLemmas
+pub mod Quiet
+pub mod Spills
+pub mod OperandLemmas
+pub mod StepLemmas
+pub mod BirthLemmas
+pub mod NumberLemmas
+pub mod DropLemmas

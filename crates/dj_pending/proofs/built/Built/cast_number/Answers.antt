@@ -1,0 +1,16 @@
+use Rattle.std.proofs.Common.{ap}
+use Rattle.dj_syntax.specs.Trees.{view_stms}
+use Rattle.dj_syntax.specs.Trees.{Cast}
+use Rattle.dj_names.specs.declared.types.JType as code_type
+use Rattle.dj_names.specs.Types.{Of, view_type}
+use Rattle.dj_pending.specs.Trees.{view_tree}
+use Rattle.dj_pending.specs.Stacks.{stacked}
+use Rattle.dj_pending.specs.Building.{view_built}
+use Rattle.dj_pending.proofs.NumberLemmas.{one-pushed}
+use Rattle.dj_pending.proofs.built.Built.cast_number.Goals as goal
+
+pub returns : goal.returns
+returns c = record {
+  built = one-pushed c.args.wide (view_type c.args.to) (Cast (view_type c.args.to)) (view_stms c.args.self.now.emitted) c.args.self.now.next (stacked c.args.self.now.stack) (stacked c.take_number.new.self) (view_tree c.in-Some.operand) (view_tree c.in_ok-tree.tree) (Of (view_type c.in_ok-copy.field-0)) (view_built c.push.new.self)
+      (rw c.in-Some.is at c.in_ok-operand.ensures.taken) c.in_ok-tree.ensures.tree (ap (λ (one : code_type.JType). Of (view_type one)) c.in_ok-copy.ensures.equal) c.in_ok-push.ensures.pushed;
+}
