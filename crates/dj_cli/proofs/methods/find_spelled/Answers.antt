@@ -19,4 +19,3 @@ find_verified-requires c = record {
   spelled = subst (λ (code : Code). SpellsCode (view_class c.args.class.now) (view_method c.args.method.now) (view_code code)) (sym c.in-Ok.ensures.same) c.requires.spelled;
   table = rw c.headers.ensures.headers at c.in-Ok.ensures.typed;
 }
-
