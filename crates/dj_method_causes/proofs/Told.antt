@@ -10,7 +10,7 @@ use Rattle.dj_causes.specs.Firsts.{IsFirstCause}
 use Rattle.dj_causes.specs.BareCauses.{number_of}
 use Rattle.dj_code_causes.specs.Monitors.{HasMonitorAt}
 use Rattle.dj_method_causes.specs.MethodCauses.{HasCause, IsUnpairedYet}
-use Rattle.dj_method_causes.specs.Telling.{HoldsGiven, HasNoCause, IsUntold, IsToldCause}
+use Rattle.dj_method_causes.specs.Telling.{HoldsGiven, IsFirstAmong, HasNoCause, IsUntold, IsToldCause}
 
 -- the first instruction on a monitor, if there is one
 abbrev pub IsFirstMonitor : Typed → Option ℕ → Type 0
@@ -30,6 +30,17 @@ counted typed (Some other) first pc least =
 -- no number is there
 pub no_number : (found : Option ℕ) → found ≡ None → (pc : ℕ) → ¬ (found ≡ Some pc)
 no_number found is pc also = absurd cc
+
+-- a cause before Monitor, or behind it
+pub is_early : (Holds : Cause → Type 0) (one : Cause) → IsFirstAmong Holds 1 8 (Some one) → ¬ (number_of one ≡ 8)
+is_early Holds one first same =
+    let below = first.below in
+    omega (arith, same, below)
+
+pub is_late : (Holds : Cause → Type 0) (one : Cause) → IsFirstAmong Holds 9 12 (Some one) → ¬ (number_of one ≡ 8)
+is_late Holds one first same =
+    let above = first.above in
+    omega (arith, same, above)
 
 module _ (world : WorldOf) (class : ClassOf) (at : ℕ) (typed : Typed) where
   -- where no cause is told of code without monitors it has none
@@ -64,5 +75,5 @@ module _ (world : WorldOf) (class : ClassOf) (at : ℕ) (typed : Typed) where
     from_yet = alike IsUnpairedYet (λ one pc. unpaired ≡ Some pc) (counted typed unpaired first)
 
     -- the first cause is told
-    pub told_first : (one : Cause) → IsFirstCause number_of Given (Some one) → IsToldCause world class at typed (Some one)
-    told_first one least = record { holds = to_yet one least.holds; least = λ other has. least.least other (from_yet other has) }
+    pub told_first : (one : Cause) → ¬ (number_of one ≡ 8) → IsFirstCause number_of Given (Some one) → IsToldCause world class at typed (Some one)
+    told_first one paired least = (record { holds = to_yet one least.holds; least = λ other has. least.least other (from_yet other has) }, paired)

@@ -82,7 +82,7 @@ pub record IsUntold (world : WorldOf) (class : ClassOf) (at : ℕ) (typed : Type
   pub early : HasNoneEarly world class at typed
   pub births : ((pc : ℕ) → ¬ HasMonitorAt typed.code pc) → HasNoneInBirths world typed
 
--- the cause that is told of it: its first one
+-- the cause that is told of it: its first one, which is never Monitor, as no pairs are looked for yet
 abbrev pub IsToldCause : WorldOf → ClassOf → ℕ → Typed → Option Cause → Type 0
 IsToldCause world class at typed None = IsUntold world class at typed
-IsToldCause world class at typed (Some cause) = IsMethodCause IsUnpairedYet world class at typed (Some cause)
+IsToldCause world class at typed (Some cause) = IsMethodCause IsUnpairedYet world class at typed (Some cause) × ¬ (number_of cause ≡ 8)
