@@ -1,2 +1,3 @@
 -- Lemmas.
 pub mod Any
+pub mod ExactlyLemmas

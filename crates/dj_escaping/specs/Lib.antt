@@ -1,2 +1,3 @@
 -- What the public contract rests on.
 pub mod Escaping
+pub mod Beginning

@@ -1,22 +1,27 @@
 //! Which checked classes escape from calls (JLS 11.2.1).
 
-ghost use Rattle.std.specs.Prelude.{◌≡◌, map, not, IfOk};
+ghost use Rattle.std.specs.Prelude.{◌≡◌, map, not, true, IfOk, IfSome};
 ghost use Rattle.std.specs.List.{list_any};
-ghost use Rattle.std.specs.Option.{option_map};
-ghost use Rattle.dj_names.specs.Types.{view_static, view_type, Of};
+ghost use Rattle.std.specs.Option.{option_map, option_copied};
+ghost use Rattle.dj_names.specs.Types.{view_static, view_type, view_types, parameters_of, Of};
+ghost use Rattle.dj_names.specs.MethodNames.{is_constructor};
 ghost use Rattle.dj_instructions.specs.Instructions.{view_instruction, view_method_ref};
 ghost use Rattle.dj_frames.specs.Frames.{view_frame};
 ghost use Rattle.dj_code.specs.MethodCode.{view_code};
 ghost use Rattle.dj_thrown.specs.Settings.{setting_of};
 ghost use Rattle.dj_thrown.specs.Catching as catching;
+ghost use Rattle.dj_thrown.specs.Listed.{construct_listed};
+ghost use Rattle.dj_world.specs.Clashes.{IsLawful};
 ghost use Rattle.dj_escaping.specs.Escaping as spec;
+ghost use Rattle.dj_escaping.specs.Beginning.{begun_class};
 
+use crate::exactly::listed_exactly;
 use dj_code::{Code, Frame, Instruction, MethodRef};
 use dj_headers::Headers;
 use dj_kinds::Kinds;
 use dj_names::{ClassName, Descriptor, Items, JType, StaticType, is_constructor};
 use dj_receivers::is_on_begun;
-use dj_static::Classes;
+use dj_static::{Classes, superclass_of};
 use dj_thrown::{class_listed, construct_listed, may_escape, new_listed, object_listed};
 use dj_world::World;
 use std::alloc::{AllocError, Global};
@@ -75,8 +80,8 @@ fn static_listed<'a>(
     class_listed(alloc, classes, class, &method.name, &arguments)
 }
 
-/// What a call of a constructor lists.
-fn constructor_listed<'a>(
+/// What a call of a constructor of a class lists, by all constructors.
+fn constructor_searched<'a>(
     alloc: Global,
     classes: &Classes<'a>,
     method: &MethodRef,
@@ -95,6 +100,99 @@ fn constructor_listed<'a>(
     }
 }
 
+/// The class whose constructors `this(..)` or `super(..)` calls, by whether it is this one.
+fn begun_class<'a>(classes: &Classes<'a>, own: bool) -> Option<&'a ClassName>
+    ensures class { option_copied result ≡ begun_class (setting_of classes.now) own }
+{
+    if own {
+        Some(classes.from)
+    } else {
+        superclass_of(classes.headers, classes.from)
+    }
+}
+
+/// The parameters of a method.
+fn parameters_in(method: &MethodRef) -> &[JType]
+    ensures parameters { view_types result.now ≡ parameters_of (view_method_ref method.now).descriptor }
+{
+    match &method.descriptor {
+        Descriptor::Method { parameters, .. } => parameters.as_slice(),
+        Descriptor::Field(_) => &[],
+    }
+}
+
+/// What a call of a constructor on `this` lists, where the first one of just its parameters tells it.
+fn begun_exactly<'a>(
+    classes: &Classes<'a>,
+    method: &MethodRef,
+    own: bool,
+    types: &[StaticType],
+) -> Option<&'a [ClassName]>
+    requires lawful { IsLawful classes.now.headers.now }
+    requires constructs { is_constructor (view_method_ref method.now).name ≡ true }
+    requires exact { map view_static types.now ≡ map Of (parameters_of (view_method_ref method.now).descriptor) }
+    ensures listed { IfSome result (λ listed. listed.now ≡ construct_listed (setting_of classes.now) own (spec.exactly (view_method_ref method.now))) }
+{
+    match begun_class(classes, own) {
+        None => Some(&[]),
+        Some(class) => listed_exactly(
+            classes,
+            class,
+            None,
+            &method.name,
+            parameters_in(method),
+            types,
+        ),
+    }
+}
+
+/// What a call of a constructor lists, where the first one of just its parameters tells it.
+fn constructor_exactly<'a>(
+    classes: &Classes<'a>,
+    method: &MethodRef,
+    begun: bool,
+    types: &[StaticType],
+) -> Option<&'a [ClassName]>
+    requires lawful { IsLawful classes.now.headers.now }
+    requires constructs { is_constructor (view_method_ref method.now).name ≡ true }
+    requires exact { map view_static types.now ≡ map Of (parameters_of (view_method_ref method.now).descriptor) }
+    ensures listed { IfSome result (λ listed. listed.now ≡ spec.constructor_listed (setting_of classes.now) (view_method_ref method.now) begun) }
+{
+    let JType::Class(class) = &method.owner else {
+        return None;
+    };
+    if begun {
+        begun_exactly(classes, method, class == classes.from, types)
+    } else {
+        listed_exactly(
+            classes,
+            class,
+            Some(&method.owner),
+            &method.name,
+            parameters_in(method),
+            types,
+        )
+    }
+}
+
+/// What a call of a constructor lists.
+fn constructor_listed<'a>(
+    alloc: Global,
+    classes: &Classes<'a>,
+    method: &MethodRef,
+    begun: bool,
+) -> Result<&'a [ClassName], AllocError>
+    requires lawful { IsLawful classes.now.headers.now }
+    requires constructs { is_constructor (view_method_ref method.now).name ≡ true }
+    ensures listed { IfOk result (λ listed. listed.now ≡ spec.constructor_listed (setting_of classes.now) (view_method_ref method.now) begun) }
+{
+    let types = exact_types(alloc, parameters_in(method))?;
+    match constructor_exactly(classes, method, begun, types.as_slice()) {
+        Some(listed) => Ok(listed),
+        None => constructor_searched(alloc, classes, method, begun),
+    }
+}
+
 /// What the method lists that an instruction calls.
 fn listed_by<'a>(
     alloc: Global,
@@ -102,6 +200,7 @@ fn listed_by<'a>(
     instruction: &Instruction,
     frame: &Frame,
 ) -> Result<&'a [ClassName], AllocError>
+    requires lawful { IsLawful classes.now.headers.now }
     ensures listed { IfOk result (λ listed. listed.now ≡ spec.listed_by (setting_of classes.now) (view_instruction instruction.now) (view_frame frame.now)) }
 {
     match instruction {
@@ -186,6 +285,7 @@ fn is_one_kept(
 fn classes_of<'a>(world: &'a World, code: &'a Code) -> Classes<'a>
     ensures classes { setting_of result ≡ spec.setting_for world.now (view_code code.now) }
     ensures headers { result.headers.now ≡ world.now.headers }
+    ensures lawful { IsLawful result.headers.now }
 {
     Classes {
         headers: world.headers(),

@@ -6,7 +6,7 @@ mod MethodLemmas
 mod AboveLemmas
 mod JudgingLemmas
 mod LackingLemmas
-mod OneWay
+pub mod OneWay
 mod ExactlyLemmas
 mod StoreLemmas
 mod TellingLemmas

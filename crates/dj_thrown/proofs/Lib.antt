@@ -2,7 +2,7 @@ mod ToldLemmas
 mod ThrownLaw
 mod CheckLemmas
 mod CheckedLemmas
-mod ListedLemmas
+pub mod ListedLemmas
 mod ListLemmas
 mod EscapingLemmas
 mod Examples
