@@ -202,7 +202,7 @@ field_lines class (field ∷ fields) (cause ∷ causes) = field_line class field
 abbrev pub file_line : List ℕ → List ℕ
 file_line class = codes "// " ++ class ++ codes ".java" ++ 10 ∷ []
 
--- a class is printed that no cause refuses: with exactly its fields that have no cause, its methods without code that have none, and its straight methods that are verified. Its unit is well formed, no two of its members clash, no other well formed unit has its text, and each other field has its line, and behind them each other method
+-- a class is printed that no cause refuses: with exactly its fields that have no cause, its methods without code that have none, and its straight methods that are verified and have none. Its unit is well formed, no two of its members clash, no other well formed unit has its text, and each other field has its line, and behind them each other method
 pub record PrintsClass (world : WorldOf) (class : ClassOf) (piece : Piece) : Type 0 where
   pub none : (cause : ClassCause) → ¬ HasClassCause world class cause
   pub causes : List (Option FieldCause)
