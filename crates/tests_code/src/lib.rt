@@ -13,5 +13,3 @@ mod starts;
 mod tables;
 #[cfg(test)]
 mod values;
-#[cfg(test)]
-mod variables;
