@@ -113,7 +113,7 @@ fn is_above_arrays(class: &ClassName) -> bool
 }
 
 /// Whether a reference may be of both types.
-fn may_be(headers: &Headers, from: &JType, to: &JType) -> bool
+pub fn may_be(headers: &Headers, from: &JType, to: &JType) -> bool
     ensures may { result ≡ spec.may_be headers.now (view_type from.now) (view_type to.now) }
 {
     match from {

@@ -18,7 +18,7 @@ mod walk;
 mod whole;
 
 pub use calls::is_meant;
-pub use casting::has_flag;
+pub use casting::{has_flag, is_reference, is_type, may_be, may_be_of, may_cast};
 pub use check::check_expression;
 pub use effects::pass_effect;
 pub use expressions::{pass_exp, pass_exps};
@@ -29,4 +29,4 @@ pub use operands::{Test, goes, if_of};
 pub use site::{Site, can_name, may_name, may_name_member, may_name_type};
 pub use supers::{lists, own_interfaces};
 pub use walk::Walk;
-pub use whole::is_whole_static;
+pub use whole::{is_whole_static, is_whole_type};

@@ -54,7 +54,7 @@ pub fn is_whole(alloc: Global, headers: &Headers, class: &ClassName) -> Result<b
 }
 
 /// Whether the class of a type's innermost elements is whole, where it has one.
-fn is_whole_type(alloc: Global, headers: &Headers, kind: &JType) -> Result<bool, AllocError>
+pub fn is_whole_type(alloc: Global, headers: &Headers, kind: &JType) -> Result<bool, AllocError>
     ensures whole { IfOk result (λ whole. whole ≡ spec.is_whole_type headers.now (view_type kind.now)) }
 {
     match kind {
