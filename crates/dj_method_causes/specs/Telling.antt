@@ -4,6 +4,8 @@ use Rattle.dj_names.specs.Headers.{Name}
 use Rattle.dj_class.specs.Described.{ClassOf}
 use Rattle.dj_world.specs.Worlds.{WorldOf}
 use Rattle.dj_code.specs.MethodCode.{Code, Typed}
+use Rattle.dj_tags.specs.Laxly.{Strictly}
+use Rattle.dj_verify.specs.Verified.{IsTyped}
 use Rattle.dj_sayable.specs.Scopes.{IsScope}
 use Rattle.dj_signatures.specs.Signatures.{BreaksSignature, TellsRivals}
 use Rattle.dj_causes.specs.declared.cause.Cause.{Cause}
@@ -51,11 +53,12 @@ pub record HasNoneInNames (world : WorldOf) (code : Code) : Type 0 where
   pub missing : (name : Name) → ¬ IsMissing world code name
   pub unsaid : (name : Name) → ¬ IsUnsaidIn world code name
 
--- neither Signature nor Member nor Interface
+-- neither Signature nor Member nor Interface: so the frames keep Java's rules too
 pub record HasNoneInMembers (world : WorldOf) (class : ClassOf) (at : ℕ) (typed : Typed) : Type 0 where
   pub signature : ¬ IsSomeAnd (slice_get class.methods at) (BreaksSignature class at)
   pub member : (pc : ℕ) → ¬ LacksMember world typed pc
   pub interface : (pc : ℕ) → ¬ BreaksStrictly world typed pc
+  pub strict : IsTyped (Strictly world.headers) world.headers typed
 
 -- neither BeforeSuper nor Unborn nor Large
 pub record HasNoneInBirths (world : WorldOf) (typed : Typed) : Type 0 where

@@ -6,7 +6,9 @@ ghost use Rattle.dj_class.specs.Described.{ClassOf};
 ghost use Rattle.dj_class.specs.Views.{view_class, view_method};
 ghost use Rattle.dj_code.specs.MethodCode.{view_code, view_typed};
 ghost use Rattle.dj_world.specs.Worlds.{WorldOf};
+ghost use Rattle.dj_tags.specs.Laxly.{Strictly};
 ghost use Rattle.dj_verify.specs.Tabled.{HasTable};
+ghost use Rattle.dj_verify.specs.Verified.{IsTyped};
 ghost use Rattle.dj_method_causes.specs.MethodCauses.{BreaksStrictly, IsCodeAt, IsMethodCause};
 ghost use Rattle.dj_method_causes.specs.Telling.{HoldsGiven, IsFirstAmong, HasNoneInInstructions, HasNoneInNames, HasNoneInMembers, HasNoneInBirths, HasNoneEarly, IsToldCause, AreMethodCauses};
 
@@ -63,6 +65,7 @@ fn first_broken(alloc: Global, world: &World, typed: &Typed) -> Result<Option<u3
     requires rising { IsRising (view_instructions typed.now.code.instructions) }
     requires typed { HasTable (view_typed typed.now) }
     ensures first { IfOk result (λ found. MatchOption found ((pc : ℕ) → ¬ BreaksStrictly world.now (view_typed typed.now) pc) (BreaksStrictly world.now (view_typed typed.now))) }
+    ensures strict { IfOk result (λ found. found ≡ None → IsTyped (Strictly world.now.headers) world.now.headers (view_typed typed.now)) }
 {
     match strict(alloc, world.headers(), typed) {
         Ok(()) => Ok(None),
