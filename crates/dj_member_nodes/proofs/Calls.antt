@@ -41,10 +41,10 @@ use Rattle.dj_blocks_formed.specs.Ruled.{IsRuled, AreRuledOperands}
 use Rattle.dj_blocks_formed.proofs.Stored.{Keeps}
 use Rattle.dj_blocks_formed.proofs.Spilled.{named-whole}
 use Rattle.dj_blocks_formed.proofs.Blocks.{made-if, both-are}
-use Rattle.dj_member_nodes.specs.Going.{fits_in, all_fit, exps_of, froms_of}
+use Rattle.dj_member_nodes.specs.Going.{fits_in, all_fit, may_be_given, exps_of, froms_of}
 use Rattle.dj_member_nodes.specs.Nodes.{given_to, object_call, class_call, is_this, is_above, super_call, birth_of}
 use Rattle.dj_member_nodes.specs.Named.{MethodIsNamed}
-use Rattle.dj_member_nodes.proofs.Fitting.{all-fit-many}
+use Rattle.dj_member_nodes.proofs.Fitting.{all-fit-many, given-fit}
 use Rattle.dj_member_nodes.proofs.Dressed.{IsDressed, pinned-ruled, AreDressed, all-dressed-ruled}
 
 -- an expression calls what is asked for, and keeps the rules, alone as a statement, and where it gives a value
@@ -104,14 +104,15 @@ module _ (site : Site) (n : ℕ) (scope : Scope) where
       let first = dressed site.headers false object.0 method.owner object.1 in
       let rest = arguments_to method method.name searched are in
       let given = given_types method method.name searched are in
-      let m = made-if (is_reference method.owner && (fits_in site.headers object.0 method.owner && all_fit site.headers are (parameters_of method.descriptor))) (Some (Call first method.name rest)) exp e in
-      let fits = and_parts (is_reference method.owner) (fits_in site.headers object.0 method.owner && all_fit site.headers are (parameters_of method.descriptor)) m.0 in
-      let parts = and_parts (fits_in site.headers object.0 method.owner) (all_fit site.headers are (parameters_of method.descriptor)) fits.1 in
+      let m = made-if (is_reference method.owner && (fits_in site.headers object.0 method.owner && may_be_given site.headers are (parameters_of method.descriptor))) (Some (Call first method.name rest)) exp e in
+      let fits = and_parts (is_reference method.owner) (fits_in site.headers object.0 method.owner && may_be_given site.headers are (parameters_of method.descriptor)) m.0 in
+      let parts = and_parts (fits_in site.headers object.0 method.owner) (may_be_given site.headers are (parameters_of method.descriptor)) fits.1 in
+      let fit = given-fit site.headers are (parameters_of method.descriptor) parts.1 in
       let same : Call first method.name rest ≡ exp = (let some = m.1 in cc) in
       let one = pinned-ruled site n scope object.0 method.owner object.1 h.0 parts.0 named.owner in
-      let more = arguments-ruled method method.name searched are h.1 parts.1 named in
+      let more = arguments-ruled method method.name searched are h.1 fit named in
       let meant : of_object site.headers site.members site.class method.name given method.owner ≡ Some (asked_of kind method.owner method) =
-      object_alike site.headers site.members site.class given (parameters_of method.descriptor) method.name method.owner (choose method method.name searched are parts.1) ∙ is.meant in
+      object_alike site.headers site.members site.class given (parameters_of method.descriptor) method.name method.owner (choose method method.name searched are fit) ∙ is.meant in
       let target : object_target (context_of site) method.name (plain (type_of (context_of site) scope first)) (types_of (context_of site) scope rest) ≡ Some (asked_of kind method.owner method) =
       ap (λ found. object_target (context_of site) method.name (plain found) (types_of (context_of site) scope rest)) one.typed ∙ ap (object_target (context_of site) method.name (Some method.owner)) more.typed ∙ meant in
       let type = call-type (context_of site) scope kind method first rest given one.typed more.typed meant in
@@ -161,12 +162,12 @@ module _ (site : Site) (n : ℕ) (scope : Scope) where
   pub class-called : (method : MethodRef) → IsOfClass site.headers site.members site.class method → MethodIsNamed site method → is_constructor method.name ≡ false → (are : List Typed) (exp : Exp) → class_call (constants_of site) method are ≡ Some exp → AreRuledOperands site n scope are
       → IsCall site n scope (result_of method.descriptor) exp
   class-called method is named plain_name are exp e h =
-      let m = made-if (all_fit site.headers are (parameters_of method.descriptor)) (and_then (class_of method.owner) (λ class. Some (StaticCall class method.name (arguments_to method method.name (Some class) are)))) exp e in
+      let m = made-if (may_be_given site.headers are (parameters_of method.descriptor)) (and_then (class_of method.owner) (λ class. Some (StaticCall class method.name (arguments_to method method.name (Some class) are)))) exp e in
       let b = both-are (class_of method.owner) (λ class. Some (StaticCall class method.name (arguments_to method method.name (Some class) are))) exp m.1 in
       let same : StaticCall b.one method.name (arguments_to method method.name (Some b.one) are) ≡ exp = (let some = b.then_is in cc) in
       let class_is : is.class ≡ b.one = (let some : Some is.class ≡ Some b.one = sym (ap class_of is.owner) ∙ b.is in cc) in
       subst (IsCall site n scope (result_of method.descriptor)) same
-      (subst (λ class. IsCall site n scope (result_of method.descriptor) (StaticCall class method.name (arguments_to method method.name (Some class) are))) class_is (class-called-at method is named plain_name are m.0 h))
+      (subst (λ class. IsCall site n scope (result_of method.descriptor) (StaticCall class method.name (arguments_to method method.name (Some class) are))) class_is (class-called-at method is named plain_name are (given-fit site.headers are (parameters_of method.descriptor) m.0) h))
 
   -- ---- behind `super`
 
@@ -244,11 +245,11 @@ module _ (site : Site) (n : ℕ) (scope : Scope) where
 
   pub birth-ruled : (method : MethodRef) → IsOfNew site.headers site.members site.class method → MethodIsNamed site method → (class : Name) (are : List Typed) (exp : Exp) → birth_of (constants_of site) method class are ≡ Some exp → AreRuledOperands site n scope are → IsRuled site n scope (Of (Class class)) exp
   birth-ruled method is named class are exp e h =
-      let fit_all = all_fit site.headers are (parameters_of method.descriptor) in
+      let fit_all = may_be_given site.headers are (parameters_of method.descriptor) in
       let m = made-if (is_constructor method.name && (is_type method.owner (Class class) && fit_all)) (Some (New class (arguments_to method (codes "<init>") (Some class) are))) exp e in
       let a = and_parts (is_constructor method.name) (is_type method.owner (Class class) && fit_all) m.0 in
       let b = and_parts (is_type method.owner (Class class)) fit_all a.1 in
       let same : New class (arguments_to method (codes "<init>") (Some class) are) ≡ exp = (let some = m.1 in cc) in
       let class_is : is.class ≡ class = (let some : Some is.class ≡ Some class = sym (ap class_of is.owner) ∙ ap class_of (one-type method.owner (Class class) b.0) in cc) in
       subst (IsRuled site n scope (Of (Class class))) same
-      (subst (λ one. IsRuled site n scope (Of (Class one)) (New one (arguments_to method (codes "<init>") (Some one) are))) class_is (birth-at method is named are b.1 h))
+      (subst (λ one. IsRuled site n scope (Of (Class one)) (New one (arguments_to method (codes "<init>") (Some one) are))) class_is (birth-at method is named are (given-fit site.headers are (parameters_of method.descriptor) b.1) h))

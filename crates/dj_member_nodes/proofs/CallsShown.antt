@@ -32,9 +32,9 @@ use Rattle.dj_members_shown.proofs.Built.{object-built}
 use Rattle.dj_members_shown.proofs.Calling.{with-value}
 use Rattle.dj_blocks_formed.proofs.Blocks.{made-if}
 use Rattle.dj_member_nodes.specs.Going as own
-use Rattle.dj_member_nodes.specs.Going.{fits_in, all_fit, froms_of}
+use Rattle.dj_member_nodes.specs.Going.{fits_in, all_fit, may_be_given, froms_of}
 use Rattle.dj_member_nodes.specs.Nodes.{given_to, object_call}
-use Rattle.dj_member_nodes.proofs.Fitting.{true-reference, all-fit-many}
+use Rattle.dj_member_nodes.proofs.Fitting.{true-reference, all-fit-many, given-fit, given-whole}
 use Rattle.dj_strict_entries.specs.Entries as strict
 use Rattle.dj_strict_entries.specs.Replies.{GivesKept}
 use Rattle.dj_member_nodes.proofs.Standing.{node-by}
@@ -70,17 +70,18 @@ module _ (known : Surroundings) (context : Context) (runs : Runs known.headers c
 
   pub object-node : (kind : InvokeKind) → ¬ (kind ≡ Static) → (method : MethodRef) → IsOfObject world context.members context.class kind method → is_whole_type world method.owner ≡ true → AreAllWhole world (map Of (parameters_of method.descriptor))
       → (type : JType) → ((all : List Value) → GivesKept context.headers (Of type) (object_called kind method.owner method all))
-      → (are : List Typed) (exp : Exp) → object_call known method are ≡ Some exp → AreOperands context n scope are → AreAllWhole world (froms_of are) → IsNode context scope (object_called kind method.owner method) are (Of type) exp
-  object-node kind not_static method is owner_whole wanted type kept [] exp e typed whole = absurd (cc)
-  object-node kind not_static method is owner_whole wanted type kept (object ∷ are) exp e typed whole =
-      let fits = fits_in world object.0 method.owner && all_fit world are (parameters_of method.descriptor) in
+      → (are : List Typed) (exp : Exp) → object_call known method are ≡ Some exp → AreOperands context n scope are → IsNode context scope (object_called kind method.owner method) are (Of type) exp
+  object-node kind not_static method is owner_whole wanted type kept [] exp e typed = absurd (cc)
+  object-node kind not_static method is owner_whole wanted type kept (object ∷ are) exp e typed =
+      let fits = fits_in world object.0 method.owner && may_be_given world are (parameters_of method.descriptor) in
       let node = Call (dressed world false object.0 method.owner object.1) method.name (given_to known method method.name (searched_class method.owner) are) in
       let m = made-if (is_reference method.owner && fits) (Some node) exp e in
       let a = and_parts (is_reference method.owner) fits m.0 in
-      let b = and_parts (fits_in world object.0 method.owner) (all_fit world are (parameters_of method.descriptor)) a.1 in
+      let b = and_parts (fits_in world object.0 method.owner) (may_be_given world are (parameters_of method.descriptor)) a.1 in
+      let fit = given-fit world are (parameters_of method.descriptor) b.1 in
       let same : node ≡ exp = (let some = m.1 in cc) in
       subst (IsNode context scope (object_called kind method.owner method) (object ∷ are) (Of type)) same
-      (node-by context scope world may (object ∷ are) (method.owner ∷ parameters_of method.descriptor) (goes-where world object.0 method.owner b.0, all-go world are (parameters_of method.descriptor) b.1) (object_called kind method.owner method) (Of type) node
-      (λ state ops. ap (λ run. bind run present) (object-means kind not_static method is owner_whole wanted object are typed whole.1 (true-reference method.owner a.0) b.1 state ops)
+      (node-by context scope world may (object ∷ are) (method.owner ∷ parameters_of method.descriptor) (goes-where world object.0 method.owner b.0, all-go world are (parameters_of method.descriptor) fit) (object_called kind method.owner method) (Of type) node
+      (λ state ops. ap (λ run. bind run present) (object-means kind not_static method is owner_whole wanted object are typed (given-whole world are (parameters_of method.descriptor) b.1) (true-reference method.owner a.0) fit state ops)
       ∙ with-value context scope (raw.operands context scope (strict.exps_of (object ∷ are)) state) (raw.operands context scope (strict.exps_of (object ∷ are)) state) (object_called kind method.owner method) refl)
       (λ all k. kept all))

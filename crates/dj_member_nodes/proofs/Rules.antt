@@ -37,7 +37,7 @@ use Rattle.dj_blocks_formed.specs.Ruled.{IsRuled, AreRuledOperands}
 use Rattle.dj_blocks_formed.proofs.Blocks.{made-if, both-are}
 use Rattle.dj_blocks_formed.proofs.Spilled.{named-whole}
 use Rattle.dj_values.specs.Deciding.{is_type}
-use Rattle.dj_member_nodes.specs.Going.{all_fit}
+use Rattle.dj_member_nodes.specs.Going.{may_be_given}
 use Rattle.dj_member_nodes.specs.Nodes.{given_to, call_node, call_effect, object_call, class_call, special_call, birth_of, member_node, member_effect, member_birth, node_of}
 use Rattle.dj_member_nodes.specs.Named.{FieldIsNamed, MethodIsNamed, IsNamed, RootsAreNamed, IsAllowed}
 use Rattle.dj_member_nodes.specs.Laws.{ConstantsKeepRules, NodesKeepRules, EffectsKeepRules, BirthsKeepRules}
@@ -264,40 +264,40 @@ alone-holds around n scope (Some type) called found is e = absurd (cc)
 -- ---- what members are
 
 -- what is known of an instruction that names a member
-static-of : (site : Site) {receiver : Receiver} (field : FieldRef) → HasMember site.headers site.members site.class (may_assign site) receiver (op.GetStatic field) → IsField site.headers site.members site.class true field
+pub static-of : (site : Site) {receiver : Receiver} (field : FieldRef) → HasMember site.headers site.members site.class (may_assign site) receiver (op.GetStatic field) → IsField site.headers site.members site.class true field
 static-of site field (get_static is value) = is
 static-of site field (none unnamed) = absurd (cc)
 
-field-of : (site : Site) {receiver : Receiver} (field : FieldRef) → HasMember site.headers site.members site.class (may_assign site) receiver (op.GetField field) → IsField site.headers site.members site.class false field
+pub field-of : (site : Site) {receiver : Receiver} (field : FieldRef) → HasMember site.headers site.members site.class (may_assign site) receiver (op.GetField field) → IsField site.headers site.members site.class false field
 field-of site field (get_field is) = is
 field-of site field (none unnamed) = absurd (cc)
 
-virtual-of : (site : Site) {receiver : Receiver} (method : MethodRef) → HasMember site.headers site.members site.class (may_assign site) receiver (op.InvokeVirtual method) → IsOfObject site.headers site.members site.class Virtual method
+pub virtual-of : (site : Site) {receiver : Receiver} (method : MethodRef) → HasMember site.headers site.members site.class (may_assign site) receiver (op.InvokeVirtual method) → IsOfObject site.headers site.members site.class Virtual method
 virtual-of site method (invoke_virtual is) = is
 virtual-of site method (none unnamed) = absurd (cc)
 
-interface-of : (site : Site) {receiver : Receiver} (method : MethodRef) → HasMember site.headers site.members site.class (may_assign site) receiver (op.InvokeInterface method) → IsOfObject site.headers site.members site.class Interface method
+pub interface-of : (site : Site) {receiver : Receiver} (method : MethodRef) → HasMember site.headers site.members site.class (may_assign site) receiver (op.InvokeInterface method) → IsOfObject site.headers site.members site.class Interface method
 interface-of site method (invoke_interface is) = is
 interface-of site method (none unnamed) = absurd (cc)
 
-class-of : (site : Site) {receiver : Receiver} (method : MethodRef) → HasMember site.headers site.members site.class (may_assign site) receiver (op.InvokeStatic method) → IsOfClass site.headers site.members site.class method
+pub class-of : (site : Site) {receiver : Receiver} (method : MethodRef) → HasMember site.headers site.members site.class (may_assign site) receiver (op.InvokeStatic method) → IsOfClass site.headers site.members site.class method
 class-of site method (invoke_static is) = is
 class-of site method (none unnamed) = absurd (cc)
 
-lawful-of : (site : Site) {receiver : Receiver} (method : MethodRef) → HasMember site.headers site.members site.class (may_assign site) receiver (op.InvokeSpecial method) → IsLawful site.headers site.members site.class method receiver
+pub lawful-of : (site : Site) {receiver : Receiver} (method : MethodRef) → HasMember site.headers site.members site.class (may_assign site) receiver (op.InvokeSpecial method) → IsLawful site.headers site.members site.class method receiver
 lawful-of site method (invoke_special is) = is
 lawful-of site method (none unnamed) = absurd (cc)
 
 -- a field that may be written
-record IsWritten (site : Site) (static : Bool) (field : FieldRef) : Type 0 where
-  is : IsField site.headers site.members site.class static field
-  may : may_assign site is.class field.name ≡ true
+pub record IsWritten (site : Site) (static : Bool) (field : FieldRef) : Type 0 where
+  pub is : IsField site.headers site.members site.class static field
+  pub may : may_assign site is.class field.name ≡ true
 
-static-written : (site : Site) {receiver : Receiver} (field : FieldRef) → HasMember site.headers site.members site.class (may_assign site) receiver (op.PutStatic field) → IsWritten site true field
+pub static-written : (site : Site) {receiver : Receiver} (field : FieldRef) → HasMember site.headers site.members site.class (may_assign site) receiver (op.PutStatic field) → IsWritten site true field
 static-written site field (put_static is may) = record { is = is; may = may }
 static-written site field (none unnamed) = absurd (cc)
 
-field-written : (site : Site) {receiver : Receiver} (field : FieldRef) → HasMember site.headers site.members site.class (may_assign site) receiver (op.PutField field) → IsWritten site false field
+pub field-written : (site : Site) {receiver : Receiver} (field : FieldRef) → HasMember site.headers site.members site.class (may_assign site) receiver (op.PutField field) → IsWritten site false field
 field-written site field (put_field is may) = record { is = is; may = may }
 field-written site field (none unnamed) = absurd (cc)
 
@@ -362,10 +362,10 @@ module _ (site : Site) (roots : RootsAreNamed site) (receivers : ℕ → Receive
       by None is f = member-ruled instruction allowed are found f h
       by (Some one) is f = own-node site n scope instruction are found (is ∙ f) h
 
-  constructs-one : (method : MethodRef) (class : Name) (are : List Typed) (exp : Exp) → birth_of (constants_of site) method class are ≡ Some exp → is_constructor method.name ≡ true
+  pub constructs-one : (method : MethodRef) (class : Name) (are : List Typed) (exp : Exp) → birth_of (constants_of site) method class are ≡ Some exp → is_constructor method.name ≡ true
   constructs-one method class are exp e =
-      (and_parts (is_constructor method.name) (is_type method.owner (Class class) && all_fit site.headers are (parameters_of method.descriptor))
-      (made-if (is_constructor method.name && (is_type method.owner (Class class) && all_fit site.headers are (parameters_of method.descriptor))) (Some (New class (given_to (constants_of site) method (codes "<init>") (Some class) are))) exp e).0).0
+      (and_parts (is_constructor method.name) (is_type method.owner (Class class) && may_be_given site.headers are (parameters_of method.descriptor))
+      (made-if (is_constructor method.name && (is_type method.owner (Class class) && may_be_given site.headers are (parameters_of method.descriptor))) (Some (New class (given_to (constants_of site) method (codes "<init>") (Some class) are))) exp e).0).0
 
   birth-by : (receiver : Receiver) (method : MethodRef) → MethodIsNamed site method → receiver ≡ Made → IsLawful site.headers site.members site.class method receiver → (class : Name) (are : List Typed) (exp : Exp) → birth_of (constants_of site) method class are ≡ Some exp → AreRuledOperands site n scope are → IsRuled site n scope (Of (Class class)) exp
   birth-by receiver method named made (lawful_new is) class are exp e h = birth-ruled site n scope method is named class are exp e h

@@ -25,10 +25,11 @@ use Rattle.dj_members_shown.proofs.Dressing.{one-type, type-itself}
 use Rattle.dj_rebuilding.specs.Pending.{Typed, and_then}
 use Rattle.dj_blocks_formed.specs.Ruled.{IsRuled, AreRuledOperands}
 use Rattle.dj_blocks_formed.proofs.Blocks.{made-if, both-are}
-use Rattle.dj_member_nodes.specs.Going.{all_fit}
+use Rattle.dj_member_nodes.specs.Going.{may_be_given}
 use Rattle.dj_member_nodes.specs.Nodes.{given_to, object_call, is_this, is_above, super_call, special_call}
 use Rattle.dj_member_nodes.specs.Named as behind_super
 use Rattle.dj_member_nodes.specs.Named.{MethodIsNamed, RootsAreNamed, IsBehindSuper}
+use Rattle.dj_member_nodes.proofs.Fitting.{given-fit}
 use Rattle.dj_member_nodes.proofs.Calls.{IsCall, object-called, super-called-at}
 
 -- `this` may stand where it keeps the rules
@@ -58,11 +59,11 @@ this-there site n scope type (Choice test first second) e h = absurd (cc)
 this-there site n scope type (Assign variable new) e h = absurd (cc)
 
 -- one class of two types
-same-class : (first second : Name) → Class first ≡ Class second → first ≡ second
+pub same-class : (first second : Name) → Class first ≡ Class second → first ≡ second
 same-class first second e = let some : Some first ≡ Some second = ap class_of e in cc
 
 module _ (site : Site) (n : ℕ) (scope : Scope) (roots : RootsAreNamed site) (method : MethodRef) (named : MethodIsNamed site method)
-    (concrete : (above : Option Name) → IsBehindSuper site method above → means_abstract site above method.name (Some (exact (parameters_of method.descriptor))) ≡ false) where
+    (concrete : is_constructor method.name ≡ false → (above : Option Name) → IsBehindSuper site method above → means_abstract site above method.name (Some (exact (parameters_of method.descriptor))) ≡ false) where
   abbrev Called : Exp → Type 0
   Called exp = IsCall site n scope (result_of method.descriptor) exp
 
@@ -105,7 +106,7 @@ module _ (site : Site) (n : ℕ) (scope : Scope) (roots : RootsAreNamed site) (m
   super-called plain_name class interface (object ∷ are) exp e h = by (is_above (constants_of site) method) refl m.1
     where
       fit_all : Bool
-      fit_all = all_fit site.headers are (parameters_of method.descriptor)
+      fit_all = may_be_given site.headers are (parameters_of method.descriptor)
 
       rest : Option Name → Exps
       rest searched = given_to (constants_of site) method method.name searched are
@@ -123,12 +124,12 @@ module _ (site : Site) (n : ℕ) (scope : Scope) (roots : RootsAreNamed site) (m
       by true at f =
           let one = class at in
           let same : SuperCall None method.name (rest (superclass_in (header_of site.headers site.class))) ≡ exp = cc in
-          subst Called same (super-called-at site n scope method None one.owner one.super (this-there site n scope object.0 object.1 parts.0 h.0) one.meant (concrete None one.stands) named plain_name are parts.1 h.1)
+          subst Called same (super-called-at site n scope method None one.owner one.super (this-there site n scope object.0 object.1 parts.0 h.0) one.meant (concrete plain_name None one.stands) named plain_name are (given-fit site.headers are (parameters_of method.descriptor) parts.1) h.1)
       by false at f =
           let b = both-are (class_of method.owner) (λ interface. Some (SuperCall (Some interface) method.name (rest (Some interface)))) exp f in
           let one = interface at b.one b.is in
           let same : SuperCall (Some b.one) method.name (rest (Some b.one)) ≡ exp = (let some = b.then_is in cc) in
-          subst Called same (super-called-at site n scope method (Some b.one) one.owner one.super (this-there site n scope object.0 object.1 parts.0 h.0) one.meant (concrete (Some b.one) one.stands) named plain_name are parts.1 h.1)
+          subst Called same (super-called-at site n scope method (Some b.one) one.owner one.super (this-there site n scope object.0 object.1 parts.0 h.0) one.meant (concrete plain_name (Some b.one) one.stands) named plain_name are (given-fit site.headers are (parameters_of method.descriptor) parts.1) h.1)
 
   abbrev by_owner : Bool → List Typed → Option Exp
   by_owner test are = if test then object_call (constants_of site) method are else super_call (constants_of site) method are

@@ -31,7 +31,7 @@ use Rattle.dj_strict_entries.specs.Replies.{GivesKept}
 use Rattle.dj_strict_entries.proofs.Replying.{entries-are, passes}
 
 -- a run that is stuck refines each
-stuck-refines : {A B : Type 0} (first : Outcome Store A) (next : A → State Store → Outcome Store B) (other : Outcome Store B) → IsStuck first → Refines (bind first next) other
+pub stuck-refines : {A B : Type 0} (first : Outcome Store A) (next : A → State Store → Outcome Store B) (other : Outcome Store B) → IsStuck first → Refines (bind first next) other
 stuck-refines (Is result state) next other is = absurd is
 stuck-refines (Stops why state) next other is = subst (λ stop. Refines (Stops stop state) other) (sym is) lost
 

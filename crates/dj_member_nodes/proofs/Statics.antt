@@ -24,9 +24,9 @@ use Rattle.dj_members_shown.specs.Laws.{Runs}
 use Rattle.dj_members_shown.proofs.Built.{static-built}
 use Rattle.dj_members_shown.proofs.Calling.{with-value}
 use Rattle.dj_blocks_formed.proofs.Blocks.{made-if, both-are}
-use Rattle.dj_member_nodes.specs.Going.{all_fit, froms_of}
+use Rattle.dj_member_nodes.specs.Going.{all_fit, may_be_given, froms_of}
 use Rattle.dj_member_nodes.specs.Nodes.{given_to, class_call}
-use Rattle.dj_member_nodes.proofs.Fitting.{all-fit-many}
+use Rattle.dj_member_nodes.proofs.Fitting.{all-fit-many, given-fit, given-whole}
 use Rattle.dj_strict_entries.specs.Entries as strict
 use Rattle.dj_strict_entries.specs.Replies.{GivesKept}
 use Rattle.dj_member_nodes.proofs.Standing.{node-by}
@@ -48,15 +48,16 @@ module _ (known : Surroundings) (context : Context) (runs : Runs known.headers c
 
   pub static-call-node : (method : MethodRef) (is : IsOfClass world context.members context.class method) → is_whole world is.class ≡ true → AreAllWhole world (map Of (parameters_of method.descriptor))
       → (type : JType) → ((all : List Value) → GivesKept context.headers (Of type) (static_called method all))
-      → (are : List Typed) (exp : Exp) → class_call known method are ≡ Some exp → AreOperands context n scope are → AreAllWhole world (froms_of are) → IsNode context scope (static_called method) are (Of type) exp
-  static-call-node method is class_whole wanted type kept are exp e typed whole =
-      let m = made-if (all_fit world are (parameters_of method.descriptor)) (and_then (class_of method.owner) (λ class. Some (StaticCall class method.name (given_to known method method.name (Some class) are)))) exp e in
+      → (are : List Typed) (exp : Exp) → class_call known method are ≡ Some exp → AreOperands context n scope are → IsNode context scope (static_called method) are (Of type) exp
+  static-call-node method is class_whole wanted type kept are exp e typed =
+      let m = made-if (may_be_given world are (parameters_of method.descriptor)) (and_then (class_of method.owner) (λ class. Some (StaticCall class method.name (given_to known method method.name (Some class) are)))) exp e in
+      let fit = given-fit world are (parameters_of method.descriptor) m.0 in
       let b = both-are (class_of method.owner) (λ class. Some (StaticCall class method.name (given_to known method method.name (Some class) are))) exp m.1 in
       let same : StaticCall b.one method.name (given_to known method method.name (Some b.one) are) ≡ exp = (let some = b.then_is in cc) in
       let class_is : is.class ≡ b.one = (let some : Some is.class ≡ Some b.one = sym (ap class_of is.owner) ∙ b.is in cc) in
       subst (IsNode context scope (static_called method) are (Of type)) same
       (subst (λ class. IsNode context scope (static_called method) are (Of type) (StaticCall class method.name (given_to known method method.name (Some class) are))) class_is
-      (node-by context scope world may are (parameters_of method.descriptor) (all-go world are (parameters_of method.descriptor) m.0) (static_called method) (Of type) (StaticCall is.class method.name (given_to known method method.name (Some is.class) are))
-      (λ state ops. ap (λ run. bind run present) (static-means method is class_whole wanted are typed whole m.0 state ops)
+      (node-by context scope world may are (parameters_of method.descriptor) (all-go world are (parameters_of method.descriptor) fit) (static_called method) (Of type) (StaticCall is.class method.name (given_to known method method.name (Some is.class) are))
+      (λ state ops. ap (λ run. bind run present) (static-means method is class_whole wanted are typed (given-whole world are (parameters_of method.descriptor) m.0) fit state ops)
       ∙ with-value context scope (raw.operands context scope (strict.exps_of are) state) (raw.operands context scope (strict.exps_of are) state) (static_called method) refl)
       (λ all k. kept all)))

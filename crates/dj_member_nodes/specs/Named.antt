@@ -108,6 +108,6 @@ pub data IsBehindSuper (site : Site) (method : MethodRef) : Option Name → Type
 -- a constructor is called on an object that `new` made, as the call of another constructor on `this` isn't rebuilt so
 pub record IsAllowed (site : Site) (receivers : ℕ → Receiver) (pc : ℕ) (instruction : Instruction) : Type 0 where
   pub member : HasMember site.headers site.members site.class (may_assign site) (receivers pc) instruction
-  pub concrete : (method : MethodRef) → instruction ≡ op.InvokeSpecial method → (above : Option Name) → IsBehindSuper site method above → means_abstract site above method.name (Some (exact (parameters_of method.descriptor))) ≡ false
+  pub concrete : (method : MethodRef) → instruction ≡ op.InvokeSpecial method → is_constructor method.name ≡ false → (above : Option Name) → IsBehindSuper site method above → means_abstract site above method.name (Some (exact (parameters_of method.descriptor))) ≡ false
   pub born : (method : MethodRef) → instruction ≡ op.InvokeSpecial method → is_constructor method.name ≡ true → receivers pc ≡ Made
   pub named : IsNamed site instruction
