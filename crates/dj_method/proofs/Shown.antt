@@ -173,7 +173,7 @@ methods_are_shown world members class found writing method parts before after ow
     let made = method-made world members class found writing method parts before after own tree cut graphed left declared in
     record {
       made = made;
-      typed = declare_typed world members writing method parts.vars.kinds (entry_of parts) own tree declared.ready declared.thrown;
+      typed = λ thrown. declare_typed world members writing method parts.vars.kinds (entry_of parts) own tree declared.ready thrown;
       same = body_shows world members parts (method_body world members method parts own tree) cut.some cut.strict made;
       turns = method-few world members class found writing method parts before after own tree cut graphed left declared;
     }

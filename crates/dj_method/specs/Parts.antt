@@ -18,8 +18,6 @@ use Rattle.dj_meaning.specs.StaticTypes.{Scope}
 use Rattle.dj_meaning.specs.Members.{view_members}
 use Rattle.dj_meaning.specs.Meaning.{context_of}
 use Rattle.dj_places.specs.Surroundings.{around_body}
-use Rattle.dj_places.specs.Rules.{Holds}
-use Rattle.dj_declaring.specs.ThrownBodies.{body_thrown}
 use Rattle.dj_declaring.specs.Bodies.{Writing}
 use Rattle.dj_declaring.specs.Running.{AreMembers}
 use Rattle.dj_graph.specs.Graphs.{Node, Graph, node_at}
@@ -94,11 +92,10 @@ method_runs world members method parts =
 abbrev pub method_body : List Header → List ClassMembers → Body → Parts → ℕ → Stms → Body
 method_body world members method parts own tree = declared_body (around_body world members method) method parts.vars.kinds (entry_of parts) own tree
 
--- the head is that of the code, which has `this` where it is a constructor's; the tree may be declared, and what the body throws is lawful; the world has the core of classes, and its members are those of its classes
+-- the head is that of the code, which has `this` where it is a constructor's; the tree may be declared; the world has the core of classes, and its members are those of its classes
 pub record IsDeclared (world : List Header) (members : List ClassMembers) (writing : Writing) (method : Body) (parts : Parts) (own : ℕ) (tree : Stms) : Type 0 where
   pub of_code : IsBodyOfCode parts.typed.code method
   pub constructor : is_constructor method.name ≡ true → is_static method.flags ≡ false
   pub ready : IsReady world members writing method parts.vars.kinds (entry_of parts) own tree
-  pub thrown : Holds (body_thrown world members (method_body world members method parts own tree))
   pub core : HasCore world
   pub lawful : AreMembers world (map view_members members)

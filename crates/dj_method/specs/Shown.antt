@@ -7,6 +7,8 @@ use Rattle.dj_values.specs.Values.{Value}
 use Rattle.dj_class.specs.Described.{MethodOf, ClassOf}
 use Rattle.dj_meaning.specs.Meaning.{context_of}
 use Rattle.dj_meaning.specs.Ways.{all_ways}
+use Rattle.dj_places.specs.Rules.{Holds}
+use Rattle.dj_declaring.specs.ThrownBodies.{body_thrown}
 use Rattle.dj_declaring.specs.Bodies.{Writing, IsTyped}
 use Rattle.dj_graph.specs.Graphs.{Node, Graph}
 use Rattle.dj_bytecode.specs.SameShows.{MayRun, AreArgumentsOf, SameShows}
@@ -15,10 +17,10 @@ use Rattle.dj_blocks_shown.specs.Leaving.{Parts, ShowsBlock}
 use Rattle.dj_blocks_shown.specs.Composing.{IsMadeOf, NeedsFewTurns}
 use Rattle.dj_method.specs.Parts.{IsCut, method_scope, IsGraphOf, IsLeft, method_runs, method_body, IsDeclared}
 
--- the body comes from the code, is typed, and shows what the code shows; it needs few turns, where what was done to the graph needs no more
+-- the body comes from the code, is typed where what it throws is lawful, and shows what the code shows; it needs few turns, where what was done to the graph needs no more
 pub record IsDone (world : List Header) (members : List ClassMembers) (method : Body) (parts : Parts) (before after : Graph) (body : Body) : Type 0 where
   pub made : IsMadeOf world members parts body
-  pub typed : IsTyped world members body
+  pub typed : Holds (body_thrown world members body) → IsTyped world members body
   pub same : SameShows world members parts.typed.code body
   pub turns : KeepsTurns (method_runs world members method parts) before after → NeedsFewTurns world members parts body
 
