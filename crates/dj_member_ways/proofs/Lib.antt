@@ -1,0 +1,9 @@
+mod Results
+mod Given
+mod Calls
+mod Super
+mod Births
+mod Indexes
+mod Elements
+mod Special
+pub mod Holding
