@@ -1,0 +1,3 @@
+-- Methods of one block, in reading order.
+pub mod OneBlock
+pub mod Flat
