@@ -1,0 +1,9 @@
+pub mod Exits
+pub mod Heading
+pub mod Returning
+pub mod Starting
+pub mod Ready
+pub mod Naming
+pub mod Said
+pub mod Beginning
+pub mod Entering
