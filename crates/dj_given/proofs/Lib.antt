@@ -1,0 +1,6 @@
+mod Above
+mod Allowed
+mod Members
+mod Names
+mod Spelled
+mod Together
