@@ -1,0 +1,4 @@
+pub mod Exchanging
+pub mod Ready
+pub mod Showing
+pub mod Printed
