@@ -1,0 +1,4 @@
+pub mod Locals
+pub mod Owners
+pub mod Trees
+pub mod Method

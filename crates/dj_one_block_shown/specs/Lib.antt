@@ -1,0 +1,2 @@
+-- What methods of one block show.
+pub mod Shown
