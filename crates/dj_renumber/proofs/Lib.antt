@@ -1,0 +1,4 @@
+pub mod Types
+pub mod Numbers
+pub mod Lists
+pub mod Calls

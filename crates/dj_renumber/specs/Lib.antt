@@ -1,0 +1,2 @@
+-- How the code sees other names.
+pub mod Views
