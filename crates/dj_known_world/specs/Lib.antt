@@ -1,0 +1,2 @@
+-- What the public contracts rest on.
+pub mod Known
