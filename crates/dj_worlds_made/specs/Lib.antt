@@ -1,0 +1,2 @@
+-- What the laws say, in reading order.
+pub mod Made
