@@ -3,4 +3,4 @@ mod Allowed
 mod Members
 mod Names
 mod Spelled
-mod Together
+pub mod Together

@@ -1,3 +1,3 @@
 mod Rules
 pub mod StraightTyped
-mod Writable
+pub mod Writable

@@ -1,0 +1,2 @@
+-- What is printed of methods whose code is one block.
+pub mod Decompiled
