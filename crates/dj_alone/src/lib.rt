@@ -1,4 +1,4 @@
-//! Whether a method is the only one of its name and its number of parameters that can be found through a class.
+//! Whether no other method of a name and a number of parameters can be found through a class than one of these types.
 //! It stands on `dj_members` for the members of each class by their names, and on `dj_members_shown` for what is asked.
 //! The layers above use `is_alone` and `is_alone_in`.
 #![tactic(auto)]

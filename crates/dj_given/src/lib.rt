@@ -1,4 +1,4 @@
-//! What it gives the laws on blocks that no cause is told of a method with code: laws alone.
+//! What it gives the laws on blocks that a method with code has no cause: laws alone.
 //! It stands on `dj_method_causes` for causes, and on `dj_member_nodes` for what those laws ask of instructions.
 //! The layers above use the laws of `names_are_given`, `members_are_given` and those beside them.
 #![tactic(auto)]

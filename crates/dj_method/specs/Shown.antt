@@ -1,4 +1,4 @@
--- A method's body shows what its code shows, and is typed: from what each part owes.
+-- A method's body shows what its code shows, and is typed where what it throws is lawful: from what each part owes.
 use Rattle.std.specs.Prelude.{◌≡◌, ℕ, false, List, [], ◌∷◌, Some}
 use Rattle.dj_names.specs.declared.header.Header.{Header}
 use Rattle.dj_names.specs.declared.members.ClassMembers.{ClassMembers}

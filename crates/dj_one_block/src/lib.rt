@@ -1,6 +1,6 @@
-//! Methods whose code is one block: which they are, the statements that their code becomes, and the body that is printed.
+//! Methods whose code is one block: the statements that their code becomes, and that none of these has statements in it.
 //! It stands on `dj_exits`, `dj_lone_exits` and `dj_member_nodes` for what stands for instructions, and on `dj_declaring` for bodies.
-//! The layers above use the definitions `lone_tree` and `lone_body`, and the law `lone_trees_are_flat`.
+//! The layers above use the definition `lone_tree`, and the law `lone_trees_are_flat`.
 #![tactic(auto)]
 
 mod laws;

@@ -1,4 +1,4 @@
--- A method whose code is one block is printed as a body that shows what its code shows, and is typed (JLS 8.4, 14; JVMS 2.11, 4.10).
+-- A method whose code is one block is printed as a body that shows what its code shows, and is typed where what it throws is lawful (JLS 8.4, 14; JVMS 2.11, 4.10).
 use Rattle.std.specs.Prelude.{◌≡◌, ◌≢◌, ℕ, List, [], ◌∷◌, map, Option, Some}
 use Rattle.dj_names.specs.declared.header.Header.{Header}
 use Rattle.dj_names.specs.declared.members.ClassMembers.{ClassMembers}
