@@ -12,7 +12,7 @@ use Rattle.dj_names.specs.Types.{JType}
 use Rattle.dj_values.specs.Deciding.{is_name}
 use Rattle.dj_values.proofs.Deciding.{Decides-name}
 use Rattle.dj_kinds.proofs.OwnLemmas.{one_place}
-use Rattle.dj_members.specs.Tables.{method_names}
+use Rattle.dj_members.specs.Tables.{method_names, IsNamed}
 use Rattle.dj_members.specs.Picks.{IsPickedAt}
 use Rattle.dj_meaning.specs.Members.{Method, Members, view_method, view_members}
 use Rattle.dj_meaning.specs.Visible.{members_of, methods_in}
@@ -30,6 +30,18 @@ same-told first second told is = by told (are_same first second) refl refl
     by false false a b = refl
     by true false a b = absurd (false≢true (sym b ∙ (Decides-types first second).1 (is.0 a)))
     by false true a b = absurd (false≢true (sym a ∙ is.1 ((Decides-types first second).0 b)))
+
+-- a method of the name stands there
+record NamedAt (methods : List MethodHead) (name : Name) : Type 0 where
+  at : ℕ
+  is : slice_get (method_names methods) at ≡ Some name
+
+-- a class has a method of the name, as one among the members of all classes
+pub record Held (headers : List Header) (members : List ClassMembers) (name class : Name) : Type 0 where
+  pub place : ℕ
+  pub there : slice_get (names headers) place ≡ Some class
+  pub number : ℕ
+  pub is : IsNamed members (record { class = place; method = true; number = number }) name
 
 module _ (headers : List Header) (start name : Name) (types : List JType) (class : Name) where
   abbrev named : Method → Bool
@@ -109,6 +121,25 @@ module _ (headers : List Header) (start name : Name) (types : List JType) (class
       by true true others = refl
       by true false others = others
       by false other others = others
+
+  -- ---- a method of the name, where there is one
+
+  some-named : (methods : List MethodHead) → some-differ methods ≡ true → NamedAt methods name
+  some-named [] is = absurd (false≢true is)
+  some-named (method ∷ rest) is = by (is_name method.name name) refl (sym (next method rest) ∙ is) (some-named rest)
+    where
+      by : (same : Bool) → is_name method.name name ≡ same → (if same && is_seen headers start class (view_method method) then (differs types (view_method method) || some-differ rest) else some-differ rest) ≡ true
+          → (some-differ rest ≡ true → NamedAt rest name) → NamedAt (method ∷ rest) name
+      by true at is later = record { at = 0; is = ap Some ((Decides-name method.name name).0 at) }
+      by false at is later = let one = later is in record { at = suc one.at; is = one.is }
+
+  pub has-held : (members : List ClassMembers) → has headers (map view_members members) start name types class ≡ true → Held headers members name class
+  has-held members is = by (members_of headers (map view_members members) class) (sought headers members class) is
+    where
+      by : (found : Option Members) → Sought headers members class found → list_any (differs types) (filter named (methods_in found)) ≡ true → Held headers members name class
+      by _ (no_members none) is = absurd (false≢true is)
+      by _ (members_at at declared there) is =
+          let one = some-named declared.methods is in record { place = at; there = there.named; number = one.at; is = record { own = declared; class = there.there; named = one.is } }
 
   -- ---- what is picked
 

@@ -1,3 +1,4 @@
 mod Apart
 mod Walking
 mod Having
+mod Above

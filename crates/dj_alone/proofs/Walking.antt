@@ -1,9 +1,12 @@
 -- Whether some class in an order of search passes a test, step by step.
 use Rattle.std.proofs.Common.{◌≡◌, ◌≢◌, ℕ, zero, suc, ◌+◌, ◌-◌, ◌<◌, ◌≤◌, Bool, true, false, ◌||◌, List, [], ◌∷◌, ◌++◌, length, get_or, drop, flat_map, Some, None, refl, sym, ap, subst, ◌∙◌, arith}
 use Rattle.std.specs.List.{list_any}
+use Rattle.std.proofs.lemmas.Bool.{true≢false}
 use Rattle.dj_names.specs.declared.header.Header.{Header}
-use Rattle.dj_names.specs.Headers.{Name}
+use Rattle.dj_names.specs.Headers.{Name, Implements}
 use Rattle.dj_kinds.specs.Search.{header_of, superclass_in, upward, depth_first, interfaces_of}
+use Rattle.dj_kinds.specs.Deciding.{NoneIn}
+use Rattle.dj_kinds.proofs.SearchLemmas.{depth_none}
 
 module _ {A : Type 0} (test : A → Bool) where
   -- where the first fails the others tell, and where it passes one does
@@ -95,3 +98,17 @@ module _ (test : Name → Bool) (headers : List Header) where
 
   pub depth-none : (most : ℕ) (interface : Name) → most ≡ 0 → list_any test (depth_first most headers interface) ≡ false
   depth-none most interface is = ap (λ n. list_any test (depth_first n headers interface)) is
+
+  none-pass : (classes : List Name) → NoneIn (λ class (one : Unit {0}). test class ≡ true) classes → list_any test classes ≡ false
+  none-pass [] none = refl
+  none-pass (class ∷ classes) none = by (test class) refl (none-pass classes none.1)
+    where
+      by : (one : Bool) → test class ≡ one → list_any test classes ≡ false → one || list_any test classes ≡ false
+      by true at rest = absurd (none.0 tt at)
+      by false at rest = rest
+
+  -- where no class above an interface passes, none in the order from there does
+  pub depth-nowhere : (most : ℕ) (interface : Name) → ((upper : Name) → Implements headers interface upper → test upper ≡ false) → list_any test (depth_first most headers interface) ≡ false
+  depth-nowhere most interface none =
+      none-pass (depth_first most headers interface)
+      (depth_none (λ class (one : Unit {0}). test class ≡ true) headers most interface (λ upper above one passes. true≢false (sym passes ∙ none upper above)))

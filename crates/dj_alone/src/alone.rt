@@ -1,10 +1,10 @@
 //! Whether another method of a name can be found through a class (JLS 15.12.2).
 
-ghost use Rattle.std.specs.Prelude.{◌≡◌, ◌↔◌, IsTrue, false, IfSome, Some, slice_get, map, flat_map};
+ghost use Rattle.std.specs.Prelude.{◌≡◌, ◌↔◌, ℕ, List, IsTrue, false, IfSome, Some, slice_get, map, flat_map};
 ghost use Rattle.std.specs.List.{list_any};
 ghost use Rattle.std.specs.Option.{option_copied};
 ghost use Rattle.dj_names.specs.Types.{view_type, view_types, view_descriptor, parameters_of};
-ghost use Rattle.dj_names.specs.Headers.{names, HasDistinctNames};
+ghost use Rattle.dj_names.specs.Headers.{names, HasDistinctNames, Implements};
 ghost use Rattle.dj_kinds.specs.Search.{header_of, interfaces_of, upward, depth_first, beside, method_order, FindsOne};
 ghost use Rattle.dj_kinds.specs.Choice.{searched_class};
 ghost use Rattle.dj_meaning.specs.Members.{view_method, view_members};
@@ -16,7 +16,7 @@ use dj_headers::Headers;
 use dj_kinds::MemberTable;
 use dj_members::{Picker, all_named};
 use dj_names::{
-    ClassName, Descriptor, Header, JType, MethodHead, Units, is_constructor, same_type,
+    ClassName, Descriptor, Header, JType, Member, MethodHead, Units, is_constructor, same_type,
 };
 use dj_static::{Classes, is_interface, superclass_of};
 
@@ -127,11 +127,30 @@ impl Rivals<'_> {
         }
     }
 
-    /// Whether an interface has one, or what it extends, in at most so many steps.
+    /// Whether a class at or above this one has one. It looks only at the members of the name, so that a
+    /// name that no member has costs nothing.
+    fn has_above(self, class: &ClassName) -> bool
+        ensures nowhere { result ≡ false → (upper : List ℕ) → Implements self.entry.headers.now class.now upper
+            → rivals.has self.entry.headers.now (map view_members self.entry.members.now) self.entry.class.now self.entry.name.now (view_types self.entry.parameters.now) upper ≡ false }
+    {
+        let sites = self.members.sites();
+        let away = Away {
+            rivals: self,
+            class,
+            members: sites.members.as_slice(),
+        };
+        !all_named(&sites.names, self.name, &away)
+    }
+
+    /// Whether an interface has one, or what it extends, in at most so many steps. It goes only where it
+    /// finds one, so that many ways to one interface cost nothing.
     fn is_at_or_above(self, interface: &ClassName, most: usize) -> bool
         ensures above { result ≡ list_any (rivals.has self.entry.headers.now (map view_members self.entry.members.now) self.entry.class.now self.entry.name.now (view_types self.entry.parameters.now)) (depth_first most self.entry.headers.now interface.now) }
     {
         if most == 0 {
+            return false;
+        }
+        if !self.has_above(interface) {
             return false;
         }
         if self.has(interface) {
@@ -299,6 +318,33 @@ impl Picker for Others<'_> {
             Some(method) => {
                 !(differs(self.rivals.parameters, method) && self.rivals.sees(self.class, method))
             }
+        }
+    }
+}
+
+/// Members, and those whose class isn't above a class or has no other such method.
+#[derive(Clone, Copy)]
+struct Away<'a> {
+    rivals: Rivals<'a>,
+    class: &'a ClassName,
+    members: &'a [Member],
+}
+
+impl Picker for Away<'_> {
+    ghost picks = { λ p at. IfSome (slice_get p.members.now at) (λ member. IfSome (slice_get p.rivals.headers.now member.class)
+        (λ header. Implements p.rivals.headers.now p.class.now header.name
+        → rivals.has p.rivals.headers.now (map view_members p.rivals.members.now) p.rivals.class.now p.rivals.name.now (view_types p.rivals.parameters.now) header.name ≡ false)) };
+
+    fn picks(&self, at: usize) -> bool {
+        match self.members.get(at) {
+            None => true,
+            Some(member) => match header_at(self.rivals.headers, member.class as usize) {
+                None => true,
+                Some(header) => {
+                    !self.rivals.headers.implements(self.class, &header.name)
+                        || !self.rivals.has(&header.name)
+                }
+            },
         }
     }
 }
