@@ -10,4 +10,7 @@ mod same;
 mod statements;
 mod unit;
 
+pub use members::{has_no_result, takes_and_gives_nothing};
+pub use names::{are_qualified, is_method_descriptor};
+pub use statements::are_well_formed_stms;
 pub use unit::is_well_formed;

@@ -70,7 +70,7 @@ fn has_method_name(method: &MethodText) -> bool
 }
 
 /// Whether a descriptor is that of a method without a result.
-fn has_no_result(descriptor: &Descriptor) -> bool
+pub fn has_no_result(descriptor: &Descriptor) -> bool
     ensures none { IsTrue result ↔ (result_of (view_descriptor descriptor.now) ≡ None) }
 {
     match descriptor {
@@ -90,7 +90,7 @@ fn is_initialiser_head(method: &MethodText) -> bool
 }
 
 /// Whether a descriptor is that of a method without parameters and without a result.
-fn takes_and_gives_nothing(descriptor: &Descriptor) -> bool
+pub fn takes_and_gives_nothing(descriptor: &Descriptor) -> bool
     ensures nothing { IsTrue result ↔ (view_descriptor descriptor.now ≡ Method [] None) }
 {
     match descriptor {
