@@ -12,4 +12,5 @@ mod unborn;
 
 pub use beginning::first_before_super;
 pub use large::too_much;
+pub use own_calls::first_own_call;
 pub use unborn::first_unborn;
