@@ -12,8 +12,8 @@ use Rattle.dj_world.specs.Worlds.{WorldOf}
 use Rattle.dj_syntax.specs.Trees.{Body, CompilationUnit, FieldText, MethodText}
 use Rattle.dj_syntax.specs.UnitText.{is_interface}
 use Rattle.dj_signatures.specs.Signatures.{IsAlike, BreaksSignature, method_names}
-pub use Rattle.dj_signatures.proofs.CountingLemmas.{Leads}
-use Rattle.dj_signatures.proofs.CountingLemmas.{MayStand, leading, counted, one_stands}
+pub use Rattle.dj_signatures.proofs.CountingLemmas.{MayStand}
+use Rattle.dj_signatures.proofs.CountingLemmas.{counted, one_stands}
 use Rattle.dj_causes.specs.declared.cause.FieldCause.TheVariants as field_cause
 use Rattle.dj_causes.specs.declared.cause.Cause.TheVariants as cause
 use Rattle.dj_causes.specs.FieldCauses.{field_names}
@@ -26,14 +26,14 @@ use Rattle.dj_class_text.specs.ClassText.{IsClassText}
 use Rattle.dj_class_text.specs.Apart.{HaveOneSignature, IsApart}
 use Rattle.dj_class_text.proofs.FormedLemmas.{head_at}
 
--- of these methods from a place on, each with a body leads
+-- of these methods from a place on, each with a body may stand in a text
 abbrev pub BodiesLead : List MethodOf → ℕ → List MethodOf → List (Option Body) → Type 0
 BodiesLead all at [] bodies = Unit {0}
 BodiesLead all at (method ∷ some) [] = Unit {0}
 BodiesLead all at (method ∷ some) (None ∷ bodies) = BodiesLead all (at + 1) some bodies
-BodiesLead all at (method ∷ some) (Some body ∷ bodies) = Leads all at method × BodiesLead all (at + 1) some bodies
+BodiesLead all at (method ∷ some) (Some body ∷ bodies) = MayStand all at method × BodiesLead all (at + 1) some bodies
 
-first-leads : (all : List MethodOf) (at : ℕ) (method : MethodOf) (some : List MethodOf) (body : Option Body) (bodies : List (Option Body)) → BodiesLead all at (method ∷ some) (body ∷ bodies) → IfSome body (λ one. Leads all at method) × BodiesLead all (at + 1) some bodies
+first-leads : (all : List MethodOf) (at : ℕ) (method : MethodOf) (some : List MethodOf) (body : Option Body) (bodies : List (Option Body)) → BodiesLead all at (method ∷ some) (body ∷ bodies) → IfSome body (λ one. MayStand all at method) × BodiesLead all (at + 1) some bodies
 first-leads all at method some None bodies lead = (tt, lead)
 first-leads all at method some (Some body) bodies lead = lead
 
@@ -74,11 +74,11 @@ module _ (world : WorldOf) (class : ClassOf) (interface : Bool) where
     name : text.name ≡ method.name
     descriptor : text.descriptor ≡ method.descriptor
 
-  shown-here : (at : ℕ) (method : MethodOf) (body : Option Body) (text : MethodText) → slice_get class.methods at ≡ Some method → IfSome body (λ one. Leads class.methods at method) → IsTextOfMethod world class interface at method body (Some text) → IsShown at text
+  shown-here : (at : ℕ) (method : MethodOf) (body : Option Body) (text : MethodText) → slice_get class.methods at ≡ Some method → IfSome body (λ one. MayStand class.methods at method) → IsTextOfMethod world class interface at method body (Some text) → IsShown at text
   shown-here at method None text there lead (inl coded) = absurd (none-some text (sym coded.1))
   shown-here at method (Some body) text there lead (inl coded) =
       let is = same_Some text _ coded.1 in
-      record { method = method; there = there; stands = leading lead; name = ap (λ (t : MethodText). t.name) is; descriptor = ap (λ (t : MethodText). t.descriptor) is }
+      record { method = method; there = there; stands = lead; name = ap (λ (t : MethodText). t.name) is; descriptor = ap (λ (t : MethodText). t.descriptor) is }
   shown-here at method body text there lead (inr bare) = record {
     method = method;
     there = there;
@@ -140,7 +140,7 @@ helper-apart names texts true helper among (number, free, is) =
 
 -- ---- the unit
 
--- no two members of a class's unit clash, where those of its methods that have a body lead
+-- no two members of a class's unit clash, where those of its methods that have a body may stand in a text
 pub unit_apart : (world : WorldOf) (class : ClassOf) (bodies : List (Option Body)) (unit : CompilationUnit) → BodiesLead class.methods 0 class.methods bodies → IsClassText world class bodies unit → IsApart unit
 unit_apart world class bodies unit lead text = record {
   fields = fields-apart world class (is_interface class.flags) 0 class.fields unit.fields refl text.fields;
