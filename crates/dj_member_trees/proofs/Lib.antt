@@ -1,0 +1,11 @@
+pub mod TypeLemmas
+pub mod Taking
+pub mod Members
+pub mod CallLemmas
+pub mod Advancing
+pub mod GivenLemmas
+pub mod EffectLemmas
+pub mod ElementLemmas
+pub mod ArrayLemmas
+pub mod SpecialLemmas
+pub mod CallingLemmas

@@ -1,0 +1,20 @@
+use Rattle.std.proofs.Common.{ℕ, List, [], ap, ◌∙◌}
+use Rattle.dj_syntax.specs.Trees.{Stm, SetField, view_exp, view_stms}
+use Rattle.dj_rebuilding.specs.Pending.{emit}
+use Rattle.dj_pending.specs.Assigned.{is_among}
+use Rattle.dj_pending.specs.Stacks.{stacked}
+use Rattle.dj_pending.specs.Spilling.{behind}
+use Rattle.dj_member_trees.proofs.EffectLemmas.{view_set_field, field-put}
+use Rattle.dj_member_trees.proofs.fields.put_field.Goals as goal
+
+pub returns : goal.returns
+returns c =
+    let emitted = view_stms c.args.built.now.emitted in
+    let n = c.args.built.now.next in
+    let below = stacked c.args.built.now.stack in
+    record {
+      built = c.in_ok-done.ensures.emitted
+          ∙ ap (λ (one : Stm). behind emitted (emit (is_among []) n below one)) (view_set_field c.args.object.exp c.args.new.exp c.in_ok-name.name)
+          ∙ ap (λ (one : List ℕ). behind emitted (emit (is_among []) n below (SetField (view_exp c.args.object.exp) one (view_exp c.args.new.exp)))) c.in_ok-name.ensures.equal
+          ∙ ap (behind emitted) (field-put n below (view_exp c.args.object.exp) (view_exp c.args.new.exp) c.args.name.now c.args.object.quiet c.args.new.quiet);
+    }
