@@ -1,0 +1,9 @@
+pub mod Items
+pub mod Linking
+pub mod Storing
+pub mod Spilled
+pub mod Deep
+pub mod Walked
+pub mod Leaves
+pub mod Closing
+pub mod Naming
