@@ -1,0 +1,2 @@
+-- What comes of a method.
+pub mod Answers
