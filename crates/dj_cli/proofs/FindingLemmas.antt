@@ -4,8 +4,8 @@ use Rattle.std.specs.Prelude.{option_map, slice_get, ⊤}
 use Rattle.std.proofs.lemmas.Option.{slice_get-map, slice_get_read}
 use Rattle.std.proofs.lemmas.Bool.{both_ways}
 use Rattle.dj_class.specs.Described.{ClassOf, MethodOf}
-use Rattle.dj_world.specs.Worlds.{WorldOf}
-use Rattle.dj_syntax.specs.Trees.{Exp}
+use Rattle.dj_world.specs.Worlds.{WorldOf, IsWorld}
+use Rattle.dj_syntax.specs.Trees.{Exp, Body}
 use Rattle.dj_syntax.specs.WellFormed.{IsWellFormedExp}
 use Rattle.dj_instructions.specs.declared.kinds.Kind.TheVariants as kind
 use Rattle.dj_instructions.specs.Instructions as instruction
@@ -19,13 +19,16 @@ use Rattle.dj_verify.specs.Table.{IsFrameTable}
 use Rattle.dj_code_causes.specs.Places.{IsOne}
 use Rattle.dj_code_causes.specs.Monitors.{is_on_monitor, HasMonitorAt}
 use Rattle.dj_method_causes.specs.MethodCauses.{IsCodeAt}
-use Rattle.dj_method_causes.specs.Telling.{HasNoCause, IsUntold}
+use Rattle.dj_method_causes.specs.Telling.{IsUntold}
 use Rattle.dj_method_causes.proofs.Told.{no_cause}
 use Rattle.dj_straight.specs.declared.part.Operation.TheVariants.{Add, Sub, Mul}
 use Rattle.dj_straight.specs.Straight.{Formula, Number, Parameter, Calculation, postfix, calc_of}
 use Rattle.dj_straight.specs.StraightMethod.{IsStraightMethod, IsNotYet}
+use Rattle.dj_decompiled.specs.Decompiled.{IsDecompiled, IsNotYetAt}
+use Rattle.dj_decompiled.proofs.Decompiled.{bodies-show}
 use Rattle.dj_cli.specs.Output.{IsVerified, IsNotYetMethod}
-use Rattle.dj_cli.specs.Methods.{IsPrintable}
+use Rattle.dj_cli.specs.Methods.{IsPrintable, IsPrintOf}
+use Rattle.dj_cli.proofs.FittingLemmas.{decompiled_fits}
 
 -- ---- no monitors
 
@@ -80,26 +83,38 @@ module _ (world : WorldOf) (class : ClassOf) (before : List MethodOf) (method : 
     verified_code : (same : Code) → SpellsCode class method same → IsVerified world same
     verified_code same also = subst (IsVerified world) (one_code class method code same spelled also) (record { frames = frames; table = table })
 
-    module _ (untold : IsUntold world class (length before) (record { code = code; frames = frames })) where
+    module _ (is_world : IsWorld world) (here : slice_get class.methods (length before) ≡ Some method) (untold : IsUntold world class (length before) (record { code = code; frames = frames })) where
       -- code without monitors has no cause by the frames by which it is verified
-      abbrev IsFree : Code → Type 0
-      IsFree same = ((pc : ℕ) → ¬ HasMonitorAt same pc) → (verified : IsVerified world same) × HasNoCause world class (length before) (record { code = same; frames = verified.frames })
-
-      free_code : (same : Code) → SpellsCode class method same → IsFree same
-      free_code same also = subst IsFree (one_code class method code same spelled also) (λ plain. (record { frames = frames; table = table }, no_cause world class (length before) (record { code = code; frames = frames }) untold plain))
-
       pub finds_straight : (exp : Exp) → IsStraightMethod class before method exp → IsWellFormedExp exp → IsPrintable world class before method exp
-      finds_straight exp straight fits =
-          let free = free_code straight.code straight.spelled (straight_plain exp straight) in
-          record { straight = straight; verified = free.0; free = free.1; fits = fits }
+      finds_straight exp straight fits = record {
+        is_world = is_world;
+        here = here;
+        straight = straight;
+        typed = record { code = code; frames = frames };
+        spelled = spelled;
+        table = table;
+        free = no_cause world class (length before) (record { code = code; frames = frames }) untold (subst (λ (same : Code). (pc : ℕ) → ¬ HasMonitorAt same pc) (one_code class method straight.code code straight.spelled spelled) (straight_plain exp straight));
+        fits = fits;
+      }
 
-      pub finds_not_yet : (pc : ℕ) → IsNotYet class before method pc → IsNotYetMethod world class before method pc
-      finds_not_yet pc not_yet = record {
+      -- the body to which code is decompiled is printed
+      pub finds_decompiled : (body : Body) → IsDecompiled world (record { code = code; frames = frames }) body → IsPrintOf world class before method body
+      finds_decompiled body is =
+          let shown = bodies-show world class (length before) (record { code = code; frames = frames }) body (record { is_world = is_world; method = method; here = here; spells = spelled; table = table; untold = untold }) is in
+          record {
+            prints = record { typed = record { code = code; frames = frames }; spelled = spelled; table = table; free = shown.free; made = inr is; shows = shown.shows; lawful = shown.lawful };
+            fits = decompiled_fits world class method (record { code = code; frames = frames }) body spelled is;
+          }
+
+      pub finds_not_yet : (other : ℕ) → IsNotYet class before method other → (pc : ℕ) → IsNotYetAt world (record { code = code; frames = frames }) pc → IsNotYetMethod world class before method pc
+      finds_not_yet other not_straight pc not_yet = record {
         some = rw spelled.has.body refl;
-        not_yet = not_yet;
+        other = other;
+        not_straight = not_straight;
         verified = verified_code;
         typed = record { code = code; frames = frames };
         spelled = spelled;
         table = table;
         untold = untold;
+        not_yet = not_yet;
       }

@@ -1,4 +1,5 @@
 pub mod FindingLemmas
+mod FittingLemmas
 pub mod FieldsLemmas
 pub mod FilesLemmas
 pub mod MethodsLemmas

@@ -1,5 +1,5 @@
 -- What is found of one method more.
-use Rattle.std.proofs.Common.{◌≡◌, ℕ, ◌+◌, ◌≤◌, Bool, not, List, [], ◌∷◌, ◌++◌, Option, Some, None, length, refl, suc, sym, ap, ◌∙◌, subst, append_assoc, append-nil, arith}
+use Rattle.std.proofs.Common.{◌≡◌, ℕ, ◌+◌, ◌≤◌, Bool, true, false, not, ◌&&◌, List, [], ◌∷◌, ◌++◌, Option, Some, None, length, refl, suc, sym, ap, ◌∙◌, subst, inl, append_assoc, append-nil, arith}
 use Rattle.std.specs.Prelude.{IfSome, filter}
 use Rattle.std.proofs.lemmas.List.{length-append, length-map, map_push}
 use Rattle.std.proofs.lemmas.List.Elements.{filter-append}
@@ -20,9 +20,17 @@ use Rattle.dj_class_text.proofs.FlagLemmas.{method_flags_kept}
 use Rattle.dj_straight.specs.StraightMethod.{IsStraightMethod, IsBodyOf}
 use Rattle.dj_straight_shows.proofs.StraightShows.{straight_methods_show}
 use Rattle.dj_straight_typed.proofs.StraightTyped.{straight_methods_are_typed}
+use Rattle.dj_straight_typed.proofs.Writable.{right_writing, writing_is_right}
+use Rattle.dj_code.specs.MethodCode.{Code}
+use Rattle.dj_code.proofs.CodeIsOne.{one_code}
+use Rattle.dj_bytecode.specs.SameShows.{SameShows}
+use Rattle.dj_sayable.specs.Saying.{CanBeSaid}
+use Rattle.dj_typing.specs.Sites.{is_whole}
+use Rattle.dj_given.specs.Given.{IsFree}
+use Rattle.dj_given.proofs.Together.{names_given, classes_given}
 use Rattle.dj_verify.specs.declared.rule.Rule.{Rule}
 use Rattle.dj_report.specs.Report.{shown_method, bad_tail, unverified_tail, not_yet_tail, refused_method_tail}
-use Rattle.dj_cli.specs.Output.{Verdict, Prints, Bare, Refused, Bad, Unverified, NotYet, PrintsMethod, IsBareMethod, IsRefusedMethod, IsBadMethod, IsUnverifiedMethod, IsNotYetMethod, IsVerdict, AreVerdicts, body_of, is_printed, method_line, method_lines, printed_among, refused_among}
+use Rattle.dj_cli.specs.Output.{Verdict, Prints, Bare, Refused, Bad, Unverified, NotYet, IsBareMethod, IsRefusedMethod, IsBadMethod, IsUnverifiedMethod, IsNotYetMethod, IsVerdict, AreVerdicts, body_of, is_printed, method_line, method_lines, printed_among, refused_among}
 use Rattle.dj_cli.specs.Methods.{AreJudged, IsLineOf, IsPrintable, IsPrintOf}
 
 -- ---- bodies
@@ -63,6 +71,10 @@ fit-push interface owner (first ∷ methods) [] method body number fit this = ab
 fit-push interface owner (first ∷ methods) (None ∷ bodies) method body number fit this = fit-push interface owner methods bodies method body (omega (arith, number)) fit this
 fit-push interface owner (first ∷ methods) (Some one ∷ bodies) method body number fit this = (fit.0, fit-push interface owner methods bodies method body (omega (arith, number)) fit.1 this)
 
+first_true : (one other : Bool) → one && other ≡ true → one ≡ true
+first_true true other e = refl
+first_true false other e = absurd (cc)
+
 -- ---- verdicts
 
 module _ (world : WorldOf) (class : ClassOf) where
@@ -100,16 +112,36 @@ module _ (world : WorldOf) (class : ClassOf) where
       ∙ sym (append_assoc (method_line class first one) (method_lines class methods verdicts) (method_line class method verdict))
 
   -- a straight method whose code is verified is printed with the body that returns its expression
-  prints_straight : (before : List MethodOf) (method : MethodOf) (exp : Exp) (body : Body) → IsPrintable world class before method exp → IsBodyOf class method exp body → PrintsMethod world class before method body
+  pub prints_straight : (before : List MethodOf) (method : MethodOf) (exp : Exp) (body : Body) → IsPrintable world class before method exp → IsBodyOf class method exp body → IsPrintOf world class before method body
   prints_straight before method exp body printable of_method = record {
-    exp = exp;
-    straight = printable.straight;
-    verified = printable.verified;
-    free = printable.free;
-    of_method = of_method;
-    shows = straight_methods_show class before method exp body world.headers world.members printable.straight of_method;
-    typed = straight_methods_are_typed class before method exp body world.headers world.members printable.straight of_method;
+    prints = record {
+      typed = printable.typed;
+      spelled = printable.spelled;
+      table = printable.table;
+      free = printable.free;
+      made = inl (record { exp = exp; straight = printable.straight; of_method = of_method });
+      shows = subst (λ (code : Code). SameShows world.headers world.members code body) (one_code class method printable.straight.code printable.typed.code printable.straight.spelled printable.spelled)
+          (straight_methods_show class before method exp body world.headers world.members printable.straight of_method);
+      lawful = straight_methods_are_typed class before method exp body world.headers world.members printable.straight of_method whole said;
+    };
+    fits = straight_fits class before method exp body printable.straight printable.fits of_method;
   }
+    where
+      given : IsFree world class (length before) printable.typed
+      given = record { is_world = printable.is_world; method = method; here = printable.here; spells = printable.spelled; table = printable.table; free = printable.free }
+
+      own : printable.typed.code.class ≡ class.this_class
+      own = printable.spelled.head.class_is
+
+      whole : is_whole world.headers class.this_class ≡ true
+      whole = subst (λ (name : Name). is_whole world.headers name ≡ true) own (classes_given world class (length before) printable.typed given).whole
+
+      said : CanBeSaid world.headers world.members class.this_class class.this_class
+      said =
+          let right = writing_is_right world.headers world.members printable.typed.code.class in
+          let named = names_given world class (length before) printable.typed (right_writing world.headers world.members printable.typed.code.class) given right in
+          subst (λ (name : Name). CanBeSaid world.headers world.members name name) own
+          ((right.says printable.typed.code.class).0 (first_true ((right_writing world.headers world.members printable.typed.code.class).can_say printable.typed.code.class) (is_whole world.headers printable.typed.code.class) named.class)).1
 
   -- ---- methods judged
 
@@ -154,10 +186,8 @@ module _ (world : WorldOf) (class : ClassOf) where
     -- and one that is printed with a body
     pub judged_body : (body : Body) → IsPrintOf world class methods method body → AreJudged world class (methods ++ method ∷ []) (bodies ++ Some body ∷ []) lines refused
     judged_body body print =
-        let prints = prints_straight methods method print.exp body print.printable print.of_method in
-        let fits = straight_fits class methods method print.exp body print.printable.straight print.printable.fits print.of_method in
         same-refused (methods ++ method ∷ []) (bodies ++ Some body ∷ []) lines refused
-        (subst (λ these. AreJudged world class (methods ++ method ∷ []) (bodies ++ Some body ∷ []) these (refused + 0)) (append-nil lines) (judged_more methods method bodies lines refused (Prints body) before prints fits))
+        (subst (λ these. AreJudged world class (methods ++ method ∷ []) (bodies ++ Some body ∷ []) these (refused + 0)) (append-nil lines) (judged_more methods method bodies lines refused (Prints body) before print.prints print.fits))
 
     -- and one that is printed without
     pub judged_bare : IsBareMethod world class (length methods) method → AreJudged world class (methods ++ method ∷ []) (bodies ++ None ∷ []) lines refused

@@ -1,15 +1,19 @@
 -- What is found of the fields and the methods of a class.
 use Rattle.std.specs.Prelude.{◌≡◌, ℕ, false, List, [], ◌++◌, length, slice_get, Option, Some, None, IsSomeAnd}
 use Rattle.dj_class.specs.Described.{ClassOf, FieldOf, MethodOf}
-use Rattle.dj_world.specs.Worlds.{WorldOf}
+use Rattle.dj_world.specs.Worlds.{WorldOf, IsWorld}
+use Rattle.dj_code.specs.MethodCode.{Typed}
+use Rattle.dj_code.specs.ReadCode.{SpellsCode}
+use Rattle.dj_tags.specs.Laxly.{Laxly}
+use Rattle.dj_verify.specs.Table.{IsFrameTable}
 use Rattle.dj_syntax.specs.Trees.{Exp, Body, view_body, view_exp}
 use Rattle.dj_syntax.specs.UnitText.{is_interface}
 use Rattle.dj_syntax.specs.WellFormed.{IsWellFormedExp}
 use Rattle.dj_causes.specs.declared.cause.FieldCause.{FieldCause}
 use Rattle.dj_causes.specs.FieldCauses.{IsFieldCause}
 use Rattle.dj_method_causes.specs.Telling.{HasNoCause}
-use Rattle.dj_class_text.specs.Formed.{FitBodies}
-use Rattle.dj_straight.specs.StraightMethod.{IsStraightMethod, IsBodyOf}
+use Rattle.dj_class_text.specs.Formed.{FitsBody, FitBodies}
+use Rattle.dj_straight.specs.StraightMethod.{IsStraightMethod}
 use Rattle.dj_cli.specs.declared.methods.Finding.{Finding}
 use Rattle.dj_cli.specs.declared.methods.Finding.TheVariants as finding
 use Rattle.dj_cli.specs.declared.methods.Told.{Told}
@@ -17,7 +21,7 @@ use Rattle.dj_cli.specs.declared.methods.Told.TheVariants as told
 use Rattle.dj_report.specs.Report.{shown_method}
 use Rattle.dj_cli.specs.declared.endings.MemberLine.{MemberLine}
 use Rattle.dj_cli.specs.Lines.{ending_bytes, line_bytes}
-use Rattle.dj_cli.specs.Output.{Verdict, IsVerified, IsBareMethod, IsRefusedMethod, IsBadMethod, IsUnverifiedMethod, IsNotYetMethod, IsVerdict, AreVerdicts, AreFieldCauses, body_of, bodies_of, field_line, field_lines, is_printed, method_line, method_lines, refused_among}
+use Rattle.dj_cli.specs.Output.{Verdict, PrintsMethod, IsBareMethod, IsRefusedMethod, IsBadMethod, IsUnverifiedMethod, IsNotYetMethod, IsVerdict, AreVerdicts, AreFieldCauses, body_of, bodies_of, field_line, field_lines, is_printed, method_line, method_lines, refused_among}
 
 -- the causes of the fields of a class, and the lines on those that have one
 pub record HaveLines (world : WorldOf) (class : ClassOf) (fields : List FieldOf) (lines : List ℕ) : Type 0 where
@@ -31,16 +35,26 @@ IsFieldLine world class at None = IsFieldCause world class at None
 IsFieldLine world class at (Some line) =
     IsSomeAnd (slice_get class.fields at) (λ field. (cause : FieldCause) × IsFieldCause world class at (Some cause) × (line_bytes class.this_class line ≡ field_line class field (Some cause)))
 
--- a straight method whose code is verified in the world, which has no cause, with its expression, well formed
+-- a straight method whose code is verified in the world by these frames, which has no cause, with its expression, well formed
 pub record IsPrintable (world : WorldOf) (class : ClassOf) (before : List MethodOf) (method : MethodOf) (exp : Exp) : Type 0 where
+  pub is_world : IsWorld world
+  pub here : slice_get class.methods (length before) ≡ Some method
   pub straight : IsStraightMethod class before method exp
-  pub verified : IsVerified world straight.code
-  pub free : HasNoCause world class (length before) (record { code = straight.code; frames = verified.frames })
+  pub typed : Typed
+  pub spelled : SpellsCode class method typed.code
+  pub table : IsFrameTable (Laxly world.headers) world.headers typed.code typed.frames
+  pub free : HasNoCause world class (length before) typed
   pub fits : IsWellFormedExp exp
+
+-- the body of a method that is printed, which fits it
+pub record IsPrintOf (world : WorldOf) (class : ClassOf) (before : List MethodOf) (method : MethodOf) (body : Body) : Type 0 where
+  pub prints : PrintsMethod world class before method body
+  pub fits : FitsBody (is_interface class.flags) class.this_class method body
 
 -- what is found of a method of a class, those before it given
 abbrev pub IsFound : WorldOf → ClassOf → List MethodOf → MethodOf → Finding → Type 0
 IsFound world class before method (finding.Straight exp) = IsPrintable world class before method (view_exp exp)
+IsFound world class before method (finding.Decompiled body) = IsPrintOf world class before method (view_body body)
 IsFound world class before method finding.Bare = IsBareMethod world class (length before) method
 IsFound world class before method (finding.Refused cause) = IsRefusedMethod world class (length before) method cause
 IsFound world class before method (finding.Bad pc kind) = IsBadMethod class method kind pc
@@ -54,12 +68,6 @@ pub record IsLineOf (world : WorldOf) (class : ClassOf) (before : List MethodOf)
   pub no_body : body_of verdict ≡ None
   pub not_printed : is_printed verdict ≡ false
   pub line_is : method_line class method verdict ≡ shown_method class.this_class method.name method.descriptor ++ tail
-
--- the body of a method that is printed
-pub record IsPrintOf (world : WorldOf) (class : ClassOf) (before : List MethodOf) (method : MethodOf) (body : Body) : Type 0 where
-  pub exp : Exp
-  pub printable : IsPrintable world class before method exp
-  pub of_method : IsBodyOf class method exp body
 
 -- what is told of a method
 abbrev pub IsToldOf : WorldOf → ClassOf → List MethodOf → MethodOf → Told → Type 0

@@ -16,8 +16,6 @@ use Rattle.dj_tags.specs.Laxly.{Laxly}
 use Rattle.dj_verify.specs.declared.rule.Rule.{Rule}
 use Rattle.dj_verify.specs.Table.{IsFrameTable, IsFirstViolation}
 use Rattle.dj_bytecode.specs.SameShows.{SameShows}
-use Rattle.dj_sayable.specs.Saying.{CanBeSaid}
-use Rattle.dj_typing.specs.Sites.{is_whole}
 use Rattle.dj_typed.specs.Bodies.{IsTyped}
 use Rattle.dj_straight.specs.StraightMethod.{IsStraightMethod, IsNotYet, IsBodyOf}
 use Rattle.dj_causes.specs.declared.cause.Cause.{Cause}
@@ -27,6 +25,7 @@ use Rattle.dj_causes.specs.BareCauses.{HasBareCause, IsBareCause}
 use Rattle.dj_causes.specs.ClassCauses.{HasClassCause, IsClassCause}
 use Rattle.dj_causes.specs.FieldCauses.{IsFieldCause}
 use Rattle.dj_method_causes.specs.Telling.{HasNoCause, IsToldCause, IsUntold}
+use Rattle.dj_decompiled.specs.Decompiled.{IsDecompiled, IsNotYetAt}
 use Rattle.dj_class_text.specs.ClassText.{IsClassText}
 use Rattle.dj_class_text.specs.Apart.{IsApart}
 use Rattle.dj_report.specs.Report.{line_text}
@@ -59,16 +58,22 @@ pub record IsVerified (world : WorldOf) (code : Code) : Type 0 where
   pub frames : List Frame
   pub table : IsFrameTable (Laxly world.headers) world.headers code frames
 
--- a straight method of a class whose code is verified in the world, and its body, which shows the same as its code at every bound, for all arguments that fit and all answers, on each machine that has the classes of the world as it has them, those of the table of core classes too that no file has, whatever others it loads beside them;
--- and the body is typed, where the world has the class and each above it, and the text of the class can say its name; and the method has no cause
-pub record PrintsMethod (world : WorldOf) (class : ClassOf) (before : List MethodOf) (method : MethodOf) (body : Body) : Type 0 where
+-- a straight method of a class, and its body
+pub record IsStraightBody (class : ClassOf) (before : List MethodOf) (method : MethodOf) (body : Body) : Type 0 where
   pub exp : Exp
   pub straight : IsStraightMethod class before method exp
-  pub verified : IsVerified world straight.code
-  pub free : HasNoCause world class (length before) (record { code = straight.code; frames = verified.frames })
   pub of_method : IsBodyOf class method exp body
-  pub shows : SameShows world.headers world.members straight.code body
-  pub typed : is_whole world.headers class.this_class ≡ true → CanBeSaid world.headers world.members class.this_class class.this_class → IsTyped world.headers world.members body
+
+-- a method of a class with code that is verified in the world by these frames, and has no cause; and its body, that of a straight method or the one to which the code's one block is decompiled. It shows the same as the code at every bound, for all arguments that fit and all answers, on each machine that has the classes of the world as it has them, those of the table of core classes too that no file has, whatever others it loads beside them;
+-- and it is typed
+pub record PrintsMethod (world : WorldOf) (class : ClassOf) (before : List MethodOf) (method : MethodOf) (body : Body) : Type 0 where
+  pub typed : Typed
+  pub spelled : SpellsCode class method typed.code
+  pub table : IsFrameTable (Laxly world.headers) world.headers typed.code typed.frames
+  pub free : HasNoCause world class (length before) typed
+  pub made : IsStraightBody class before method body ⊎ IsDecompiled world typed body
+  pub shows : SameShows world.headers world.members typed.code body
+  pub lawful : IsTyped world.headers world.members body
 
 -- the method at a place has no code, and no cause: it is printed without a body
 pub record IsBareMethod (world : WorldOf) (class : ClassOf) (at : ℕ) (method : MethodOf) : Type 0 where
@@ -102,17 +107,19 @@ pub record IsUnverifiedMethod (world : WorldOf) (class : ClassOf) (method : Meth
   pub spelled : SpellsCode class method code
   pub first : IsFirstViolation (Laxly world.headers) world.headers code pc rule
 
--- a method isn't straight at this offset of its code, which is verified in the world by these frames, and no cause is told of it
+-- a method isn't straight, and its code, which is verified in the world by these frames, isn't decompiled yet, at this offset; no cause is told of it
 pub record IsNotYetMethod (world : WorldOf) (class : ClassOf) (before : List MethodOf) (method : MethodOf) (pc : ℕ) : Type 0 where
   pub some : IsSome method.code
-  pub not_yet : IsNotYet class before method pc
+  pub other : ℕ
+  pub not_straight : IsNotYet class before method other
   pub verified : (code : Code) → SpellsCode class method code → IsVerified world code
   pub typed : Typed
   pub spelled : SpellsCode class method typed.code
   pub table : IsFrameTable (Laxly world.headers) world.headers typed.code typed.frames
   pub untold : IsUntold world class (length before) typed
+  pub not_yet : IsNotYetAt world typed pc
 
--- the verdict on a method of a class, those before it in the file given: it is printed, with a body or without, or it is refused for its first cause, or its code is bad, or it isn't verified, or the method isn't straight at this offset of its code
+-- the verdict on a method of a class, those before it in the file given: it is printed, with a body or without, or it is refused for its first cause, or its code is bad, or it isn't verified, or the method isn't straight, nor is its code decompiled yet, at this offset
 abbrev pub IsVerdict : WorldOf → ClassOf → List MethodOf → MethodOf → Verdict → Type 0
 IsVerdict world class before method (Prints body) = PrintsMethod world class before method body
 IsVerdict world class before method Bare = IsBareMethod world class (length before) method
@@ -202,7 +209,7 @@ field_lines class (field ∷ fields) (cause ∷ causes) = field_line class field
 abbrev pub file_line : List ℕ → List ℕ
 file_line class = codes "// " ++ class ++ codes ".java" ++ 10 ∷ []
 
--- a class is printed that no cause refuses: with exactly its fields that have no cause, its methods without code that have none, and its straight methods that are verified and have none. Its unit is well formed, no two of its members clash, no other well formed unit has its text, and each other field has its line, and behind them each other method
+-- a class is printed that no cause refuses: with exactly its fields that have no cause, its methods without code that have none, and its methods with code that have none, where they are straight or decompiled. Its unit is well formed, no two of its members clash, no other well formed unit has its text, and each other field has its line, and behind them each other method
 pub record PrintsClass (world : WorldOf) (class : ClassOf) (piece : Piece) : Type 0 where
   pub none : (cause : ClassCause) → ¬ HasClassCause world class cause
   pub causes : List (Option FieldCause)

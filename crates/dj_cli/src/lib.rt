@@ -3,6 +3,7 @@
 //! The program uses `run`, whose clauses are the headline.
 #![tactic(auto)]
 
+mod basis;
 mod endings;
 mod fields;
 mod last;

@@ -10,6 +10,7 @@ ghost use Rattle.dj_class_text.specs.Formed.{IsFromFile};
 ghost use Rattle.dj_cli.specs.Output.{PrintsClass, file_line};
 ghost use Rattle.dj_cli.specs.Pieces.{IsClassTold, piece_of, piece_of_parts};
 
+use crate::basis::Basis;
 use crate::endings::MemberLine;
 use crate::fields::field_lines;
 use crate::methods::{Judgement, judge_methods};
@@ -19,8 +20,6 @@ use dj_class_text::class_text;
 use dj_names::ClassName;
 use dj_print::unit_bytes;
 use dj_syntax::Unit;
-use dj_verify::Verifier;
-use dj_world::World;
 use std::alloc::{AllocError, Global};
 
 /// What is told of a class that is printed.
@@ -59,23 +58,22 @@ fn file_line(alloc: Global, name: &ClassName) -> Result<Vec<u8>, AllocError>
     Ok(line)
 }
 
-/// What is told of a class of the world that no cause refuses, whose code this verifies.
+/// What is told of a class of the world that no cause refuses.
 fn printed_piece<'a>(
     alloc: Global,
-    world: &World,
-    verifier: &Verifier,
+    basis: &Basis<'_>,
     class: &'a ClassFile,
     causes: &Causes,
 ) -> Result<ClassPiece<'a>, AllocError>
-    requires made { AreCauses world.now (view_class class.now) causes.now }
+    requires made { AreCauses basis.now.world.now (view_class class.now) causes.now }
     requires of_file { IsFromFile (view_class class.now) }
-    requires none { (cause : ClassCause) → ¬ HasClassCause world.now (view_class class.now) cause }
-    ensures printed { IfOk result (λ piece. PrintsClass world.now (view_class class.now) (piece_of class.now.this_class piece)) }
+    requires none { (cause : ClassCause) → ¬ HasClassCause basis.now.world.now (view_class class.now) cause }
+    ensures printed { IfOk result (λ piece. PrintsClass basis.now.world.now (view_class class.now) (piece_of class.now.this_class piece)) }
 {
-    let fields = field_lines(alloc, world, class, causes)?;
-    let Judgement { bodies, lines } = judge_methods(alloc, world, verifier, class, causes)?;
+    let fields = field_lines(alloc, basis.world, class, causes)?;
+    let Judgement { bodies, lines } = judge_methods(alloc, basis, class, causes)?;
     let printed = class.methods.len() - lines.len();
-    let unit = class_text(alloc, world, class, causes, bodies)?;
+    let unit = class_text(alloc, basis.world, class, causes, bodies)?;
     let piece = piece_of_unit(alloc, &class.this_class, &unit, fields, lines, printed)?;
     Ok(piece)
 }
@@ -104,21 +102,20 @@ fn piece_of_unit<'a>(
     })
 }
 
-/// What is told of a class of the world, whose code this verifies.
+/// What is told of a class of the world.
 pub fn piece_of_class<'a>(
     alloc: Global,
-    world: &World,
-    verifier: &Verifier,
+    basis: &Basis<'_>,
     class: &'a ClassFile,
 ) -> Result<ClassTold<'a>, AllocError>
     requires of_file { IsFromFile (view_class class.now) }
-    ensures told { IfOk result (IsClassTold world.now (view_class class.now)) }
+    ensures told { IfOk result (IsClassTold basis.now.world.now (view_class class.now)) }
 {
-    let causes = Causes::new(alloc, world, class)?;
-    match causes.class_cause(alloc, world, class)? {
+    let causes = Causes::new(alloc, basis.world, class)?;
+    match causes.class_cause(alloc, basis.world, class)? {
         Some(cause) => Ok(ClassTold::Refused(cause)),
         None => {
-            let piece = printed_piece(alloc, world, verifier, class, &causes)?;
+            let piece = printed_piece(alloc, basis, class, &causes)?;
             Ok(ClassTold::Printed(piece))
         }
     }

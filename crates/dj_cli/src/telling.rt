@@ -12,6 +12,7 @@ ghost use Rattle.dj_load.specs.HeldFiles.{IsBroken, IsClash, most_files};
 ghost use Rattle.dj_cli.specs.Pieces.{IsOfFile, end_piece, piece_of, refused_piece, report_bytes, text_bytes};
 ghost use Rattle.dj_cli.specs.Telling.{IsCalm, StoppedTelling, StopsPiece, TellsPiece, source_of};
 
+use crate::basis::{Basis, basis_of};
 use crate::endings::put_lines;
 use crate::last::{LastPiece, last_piece};
 use crate::pieces::{ClassPiece, ClassTold, piece_of_class};
@@ -22,8 +23,7 @@ use dj_load::{Found, FoundFiles};
 use dj_names::ClassName;
 use dj_outer::{Failed, Sink};
 use dj_report::{broken_line, clash_line, put_piece, put_refused_class_line, refused_class_tail};
-use dj_verify::Verifier;
-use dj_world::{ClashKind, World};
+use dj_world::ClashKind;
 use std::alloc::{AllocError, Global};
 
 /// Why not everything was told.
@@ -126,18 +126,17 @@ fn tell_refused<P: Sink>(
     }
 }
 
-/// Tells the piece of a class, whose code this verifies.
+/// Tells the piece of a class of the world.
 fn tell_class<T: Sink, P: Sink>(
     alloc: Global,
-    world: &World,
-    verifier: &Verifier,
+    basis: &Basis<'_>,
     class: &ClassFile,
     text: &mut T,
     report: &mut P,
 ) -> Result<Tally, TellStop>
     requires of_file { IsFromFile (view_class class.now) }
-    ensures told { IfOk result (λ tally. TellsPiece (IsClassPiece world.now (view_class class.now)) tally (T.taken text.old) (T.taken text.new) (P.taken report.old) (P.taken report.new)) }
-    ensures stopped { IfErr result (λ stop. StopsPiece (IsClassPiece world.now (view_class class.now)) stop (T.taken text.old) (T.taken text.new) (P.taken report.old) (P.taken report.new)) }
+    ensures told { IfOk result (λ tally. TellsPiece (IsClassPiece basis.now.world.now (view_class class.now)) tally (T.taken text.old) (T.taken text.new) (P.taken report.old) (P.taken report.new)) }
+    ensures stopped { IfErr result (λ stop. StopsPiece (IsClassPiece basis.now.world.now (view_class class.now)) stop (T.taken text.old) (T.taken text.new) (P.taken report.old) (P.taken report.new)) }
     ensures failed { IfErr result (λ stop. StoppedTelling stop (Rose (T.faults text.old) (T.faults text.new)) (Rose (P.faults report.old) (P.faults report.new)) (Unit {0})) }
 
     // What the call leaves.
@@ -145,7 +144,7 @@ fn tell_class<T: Sink, P: Sink>(
     ensures report_falls { P.faults report.old ≤ P.faults report.new }
     ensures calm { IsCalm result (T.faults text.old) (T.faults text.new) (P.faults report.old) (P.faults report.new) }
 {
-    match piece_of_class(alloc, world, verifier, class)? {
+    match piece_of_class(alloc, basis, class)? {
         ClassTold::Printed(piece) => tell_printed(&class.this_class, &piece, text, report),
         ClassTold::Refused(cause) => {
             let methods = class.methods.len();
@@ -195,19 +194,18 @@ fn tell_clash<P: Sink>(
     }
 }
 
-/// Tells the piece of a file of this path, the code of whose class this verifies.
+/// Tells the piece of a file of this path.
 fn tell_file<T: Sink, P: Sink>(
     alloc: Global,
-    world: &World,
-    verifier: &Verifier,
+    basis: &Basis<'_>,
     path: &str,
     found: &Found,
     text: &mut T,
     report: &mut P,
 ) -> Result<Tally, TellStop>
     requires of_file { IsOfFile (found_of found.now) }
-    ensures told { IfOk result (λ tally. TellsPiece (IsFilePiece world.now path.now (found_of found.now)) tally (T.taken text.old) (T.taken text.new) (P.taken report.old) (P.taken report.new)) }
-    ensures stopped { IfErr result (λ stop. StopsPiece (IsFilePiece world.now path.now (found_of found.now)) stop (T.taken text.old) (T.taken text.new) (P.taken report.old) (P.taken report.new)) }
+    ensures told { IfOk result (λ tally. TellsPiece (IsFilePiece basis.now.world.now path.now (found_of found.now)) tally (T.taken text.old) (T.taken text.new) (P.taken report.old) (P.taken report.new)) }
+    ensures stopped { IfErr result (λ stop. StopsPiece (IsFilePiece basis.now.world.now path.now (found_of found.now)) stop (T.taken text.old) (T.taken text.new) (P.taken report.old) (P.taken report.new)) }
     ensures failed { IfErr result (λ stop. StoppedTelling stop (Rose (T.faults text.old) (T.faults text.new)) (Rose (P.faults report.old) (P.faults report.new)) (Unit {0})) }
 
     // What the call leaves.
@@ -216,7 +214,7 @@ fn tell_file<T: Sink, P: Sink>(
     ensures calm { IsCalm result (T.faults text.old) (T.faults text.new) (P.faults report.old) (P.faults report.new) }
 {
     match found {
-        Found::Class(class) => tell_class(alloc, world, verifier, class, text, report),
+        Found::Class(class) => tell_class(alloc, basis, class, text, report),
         Found::Clash(kind) => tell_clash(alloc, path, *kind, report),
         Found::Broken { kind, offset } => tell_broken(alloc, path, *kind, *offset, report),
     }
@@ -284,14 +282,13 @@ pub fn tell_files<T: Sink, P: Sink>(
     ensures report_falls { P.faults report.old ≤ P.faults report.new }
     ensures calm { IsCalm result (T.faults text.old) (T.faults text.new) (P.faults report.old) (P.faults report.new) }
 {
-    let verifier = Verifier::new(alloc)?;
+    let basis = basis_of(alloc, &files.world)?;
     let found = files.found.as_slice();
     let mut tally = no_tally();
     for place in 0..named.len() {
         let one = tell_file(
             alloc,
-            &files.world,
-            &verifier,
+            &basis,
             named[place].as_str(),
             &found[place],
             text,

@@ -5,20 +5,20 @@ use dj_outer::{MemoryFiles, MemorySink};
 use std::alloc::{AllocError, Global};
 use std::test::Fail;
 
-/// A class with `static int f(int, int)`, which answers the quotient.
-const QUOTIENT: [u8; 102] = [
+/// A class with `static int f(int, int)`, which answers a float as an int: it is refused.
+const FLOAT: [u8; 102] = [
     0xca, 0xfe, 0xba, 0xbe, 0x00, 0x00, 0x00, 0x34, 0x00, 0x08, 0x01, 0x00, 0x01, 0x43, 0x07, 0x00,
     0x01, 0x01, 0x00, 0x10, 0x6a, 0x61, 0x76, 0x61, 0x2f, 0x6c, 0x61, 0x6e, 0x67, 0x2f, 0x4f, 0x62,
     0x6a, 0x65, 0x63, 0x74, 0x07, 0x00, 0x03, 0x01, 0x00, 0x01, 0x66, 0x01, 0x00, 0x05, 0x28, 0x49,
     0x49, 0x29, 0x49, 0x01, 0x00, 0x04, 0x43, 0x6f, 0x64, 0x65, 0x00, 0x21, 0x00, 0x02, 0x00, 0x04,
     0x00, 0x00, 0x00, 0x00, 0x00, 0x01, 0x00, 0x08, 0x00, 0x05, 0x00, 0x06, 0x00, 0x01, 0x00, 0x07,
-    0x00, 0x00, 0x00, 0x10, 0x00, 0x02, 0x00, 0x02, 0x00, 0x00, 0x00, 0x04, 0x1a, 0x1b, 0x6c, 0xac,
+    0x00, 0x00, 0x00, 0x10, 0x00, 0x02, 0x00, 0x02, 0x00, 0x00, 0x00, 0x04, 0x00, 0x0b, 0x8b, 0xac,
     0x00, 0x00, 0x00, 0x00, 0x00, 0x00,
 ];
 
 /// The bytes of the class; of a function that says nothing, proofs carry no list of bytes.
-fn quotient() -> &'static [u8] {
-    &QUOTIENT
+fn float() -> &'static [u8] {
+    &FLOAT
 }
 
 /// How a run ended, and the sinks that it wrote to.
@@ -40,7 +40,7 @@ fn words(alloc: Global, given: &[&str]) -> Result<Vec<String>, AllocError> {
 }
 
 fn class_file(alloc: Global) -> Result<(String, Vec<u8>), AllocError> {
-    let bytes = Vec::from_slice(alloc, quotient())?;
+    let bytes = Vec::from_slice(alloc, float())?;
     Ok((String::from_str(alloc, "C.class")?, bytes))
 }
 
@@ -102,9 +102,9 @@ fn two_classes() -> &'static str {
     "// g/C0.java\npackage g;\npublic class C0 {\n    public static int m0(int p0, int p1) {\n        return (p0 + 0) * p1;\n    }\n}\n// g/C1.java\npackage g;\npublic class C1 {\n    public static int m0(int p0, int p1) {\n        return ((p0 + 1) + 8) * p1;\n    }\n}\n"
 }
 
-/// The lines on their methods that aren't straight.
+/// The lines on their methods that can't be printed yet.
 fn four_methods() -> &'static str {
-    "g/C0.m1(II)I notyet 0\ng/C0.m2(II)I notyet 0\ng/C1.m1(II)I notyet 0\ng/C1.m2(II)I notyet 0\n"
+    "g/C0.m1(II)I notyet 2\ng/C0.m2(II)I notyet 1\ng/C1.m1(II)I notyet 2\ng/C1.m2(II)I notyet 1\n"
 }
 
 #[test]

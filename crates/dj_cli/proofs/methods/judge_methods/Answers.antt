@@ -26,7 +26,7 @@ judge_method-requires c =
 
 pub loop-at-preserved : goal.loop-at-preserved
 loop-at-preserved c =
-    let world = c.args.world.now in
+    let world = c.args.basis.now.world.now in
     let class = view_class c.args.class.now in
     let items = c.args.class.now.methods in
     let at = c.loop-at.at in

@@ -10,5 +10,5 @@ use Rattle.dj_cli.proofs.methods.judge_methods.Given as goal
 abbrev pub invariant-loop-at : goal.invariant-loop-at
 invariant-loop-at l = record {
   holds : Holds l.declared (take l.at (view_class l.class).methods);
-  judged : AreJudged l.world (view_class l.class) (take l.at (view_class l.class).methods) (map (option_map view_body) l.bodies) (lines_bytes (view_class l.class).this_class l.lines.items) (length l.lines.items);
+  judged : AreJudged l.basis.world.now (view_class l.class) (take l.at (view_class l.class).methods) (map (option_map view_body) l.bodies) (lines_bytes (view_class l.class).this_class l.lines.items) (length l.lines.items);
 }

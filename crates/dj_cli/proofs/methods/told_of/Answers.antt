@@ -1,6 +1,12 @@
 use Rattle.dj_class.specs.Views.{view_class, view_method}
-use Rattle.dj_cli.proofs.MethodsLemmas.{bad_line, not_yet_line, refused_line, unverified_line}
+use Rattle.dj_syntax.specs.Trees.{view_exp}
+use Rattle.dj_cli.proofs.MethodsLemmas.{prints_straight, bad_line, not_yet_line, refused_line, unverified_line}
 use Rattle.dj_cli.proofs.methods.told_of.Goals as goal
+
+pub returns-in_ok-returning_body-in-Straight : goal.returns-in_ok-returning_body-in-Straight
+returns-in_ok-returning_body-in-Straight c = record {
+  told = λ world before found. prints_straight world (view_class c.args.class.now) before (view_method c.args.method.now) (view_exp c.in-Straight.exp) _ (rw c.in-Straight.is at found) c.in_ok-returning_body-in-Straight.ensures.body;
+}
 
 pub returns-in_ok-method_ending-in-Refused : goal.returns-in_ok-method_ending-in-Refused
 returns-in_ok-method_ending-in-Refused c = record {

@@ -9,7 +9,7 @@ use Rattle.dj_cli.proofs.telling.tell_class.Goals as goal
 
 pub returns-in-Printed-clause-told : goal.returns-in-Printed-clause-told
 returns-in-Printed-clause-told g c =
-    let world = c.args.world.now in
+    let world = c.args.basis.now.world.now in
     let class = view_class c.args.class.now in
     let piece = piece_of class.this_class c.in-Printed.piece in
     let prints = rw c.in-Printed.is at c.in_ok-piece.ensures.told in
@@ -17,7 +17,7 @@ returns-in-Printed-clause-told g c =
 
 pub returns-in-Printed-clause-stopped : goal.returns-in-Printed-clause-stopped
 returns-in-Printed-clause-stopped g c =
-    let world = c.args.world.now in
+    let world = c.args.basis.now.world.now in
     let class = view_class c.args.class.now in
     let piece = piece_of class.this_class c.in-Printed.piece in
     let prints = rw c.in-Printed.is at c.in_ok-piece.ensures.told in
@@ -25,7 +25,7 @@ returns-in-Printed-clause-stopped g c =
 
 pub returns-in-Refused-clause-told : goal.returns-in-Refused-clause-told
 returns-in-Refused-clause-told g c =
-    let world = c.args.world.now in
+    let world = c.args.basis.now.world.now in
     let class = view_class c.args.class.now in
     let cause = c.in-Refused.cause in
     let first = rw c.in-Refused.is at c.in_ok-piece.ensures.told in
@@ -35,7 +35,7 @@ returns-in-Refused-clause-told g c =
 
 pub returns-in-Refused-clause-stopped : goal.returns-in-Refused-clause-stopped
 returns-in-Refused-clause-stopped g c =
-    let world = c.args.world.now in
+    let world = c.args.basis.now.world.now in
     let class = view_class c.args.class.now in
     let cause = c.in-Refused.cause in
     let first = rw c.in-Refused.is at c.in_ok-piece.ensures.told in

@@ -13,16 +13,16 @@ pub returns-in-Class-clause-failed : goal.returns-in-Class-clause-failed
 returns-in-Class-clause-failed g c = c.tell_class.ensures.failed
 
 pub returns-in-Clash-clause-told : goal.returns-in-Clash-clause-told
-returns-in-Clash-clause-told g c = rw c.in-Clash.is (c.tell_clash.ensures.told c.args.world.now (g.T.Sink.taken c.args.text.now))
+returns-in-Clash-clause-told g c = rw c.in-Clash.is (c.tell_clash.ensures.told c.args.basis.now.world.now (g.T.Sink.taken c.args.text.now))
 
 pub returns-in-Clash-clause-stopped : goal.returns-in-Clash-clause-stopped
-returns-in-Clash-clause-stopped g c = rw c.in-Clash.is (c.tell_clash.ensures.stopped c.args.world.now (g.T.Sink.taken c.args.text.now))
+returns-in-Clash-clause-stopped g c = rw c.in-Clash.is (c.tell_clash.ensures.stopped c.args.basis.now.world.now (g.T.Sink.taken c.args.text.now))
 
 pub returns-in-Broken-clause-told : goal.returns-in-Broken-clause-told
-returns-in-Broken-clause-told g c = rw c.in-Broken.is (c.tell_broken.ensures.told c.args.world.now (g.T.Sink.taken c.args.text.now))
+returns-in-Broken-clause-told g c = rw c.in-Broken.is (c.tell_broken.ensures.told c.args.basis.now.world.now (g.T.Sink.taken c.args.text.now))
 
 pub returns-in-Broken-clause-stopped : goal.returns-in-Broken-clause-stopped
-returns-in-Broken-clause-stopped g c = rw c.in-Broken.is (c.tell_broken.ensures.stopped c.args.world.now (g.T.Sink.taken c.args.text.now))
+returns-in-Broken-clause-stopped g c = rw c.in-Broken.is (c.tell_broken.ensures.stopped c.args.basis.now.world.now (g.T.Sink.taken c.args.text.now))
 
 pub returns-in-Class-clause-calm : goal.returns-in-Class-clause-calm
 returns-in-Class-clause-calm g c = c.tell_class.ensures.calm

@@ -21,8 +21,8 @@ loop-place-init g c = record {
   told = told_none (source_of c.args.named.now c.args.made) (finds_of c.args.files.now) c.args.files.now.world (g.T.Sink.taken c.args.text.now) (g.P.Sink.taken c.args.report.now) c.no_tally-tally.result c.no_tally-tally.ensures.tally;
 }
 
-pub returns-in_err-verifier-clause-stopped : goal.returns-in_err-verifier-clause-stopped
-returns-in_err-verifier-clause-stopped g c =
+pub returns-in_err-basis-clause-stopped : goal.returns-in_err-basis-clause-stopped
+returns-in_err-basis-clause-stopped g c =
     let p = err_from_is_err_and c.from_residual.result c.from_residual.ensures.1 in
     let none = told_none (source_of c.args.named.now c.args.made) (finds_of c.args.files.now) c.args.files.now.world (g.T.Sink.taken c.args.text.now) (g.P.Sink.taken c.args.report.now) (record { has_line = false; printed = 0; refused = 0 }) refl in
     rw (p.1, p.2) (0, false, none.told)
@@ -46,7 +46,7 @@ returns-in_err-one-clause-stopped g c =
     let at_file = name_at found_of found i c.index-found-place.result in_found (rw c.as_slice-found.ensures.value at c.index-found-place.is) in
     let p = err_from_is_err_and c.from_residual-in_err-one.result c.from_residual-in_err-one.ensures.1 in
     rw (p.1, p.2)
-    (stops_telling (source_of named c.args.made) (finds_of c.args.files.now) c.args.files.now.world i c.loop-place.tally (g.T.Sink.taken c.args.text.now) (g.T.Sink.taken c.loop-place.text) (g.T.Sink.taken c.tell_file.new.text) (g.P.Sink.taken c.args.report.now) (g.P.Sink.taken c.loop-place.report) (g.P.Sink.taken c.tell_file.new.report) c.loop-place.invariant.told (string_bytes c.index-named-place.result) (found_of c.index-found-place.result) at_name at_file c.in_err-one.field-0.0 (rw c.as_str.ensures.value at c.in_err-one.ensures.stopped))
+    (stops_telling (source_of named c.args.made) (finds_of c.args.files.now) c.args.files.now.world i c.loop-place.tally (g.T.Sink.taken c.args.text.now) (g.T.Sink.taken c.loop-place.text) (g.T.Sink.taken c.tell_file.new.text) (g.P.Sink.taken c.args.report.now) (g.P.Sink.taken c.loop-place.report) (g.P.Sink.taken c.tell_file.new.report) c.loop-place.invariant.told (string_bytes c.index-named-place.result) (found_of c.index-found-place.result) at_name at_file c.in_err-one.field-0.0 (rw (c.as_str.ensures.value, c.in_ok-basis.ensures.world) at c.in_err-one.ensures.stopped))
 
 pub returns-in_err-one-clause-failed : goal.returns-in_err-one-clause-failed
 returns-in_err-one-clause-failed g c =
@@ -63,7 +63,7 @@ both-tally-requires-clause-printed g c =
     let found = c.args.files.now.found.items in
     let i = c.loop-place.place in
     let in_found : i < length found = omega arith in
-    let one = rw c.as_str.ensures.value at c.in_ok-one.ensures.told in
+    let one = rw (c.as_str.ensures.value, c.in_ok-basis.ensures.world) at c.in_ok-one.ensures.told in
     let of_file = subst (λ one. IsOfFile (found_of one)) (sym (rw c.as_slice-found.ensures.value at c.index-found-place.is)) (c.requires.of_files i c.index-found-place.result in_found) in
     let few = few_told c.args.files.now.world (string_bytes c.index-named-place.result) (found_of c.index-found-place.result) one.piece of_file one.is in
     omega (arith, one.printed_is, few.0, c.loop-place.invariant.few_printed, in_found, c.requires.few, c.requires.number)
@@ -73,7 +73,7 @@ both-tally-requires-clause-refused g c =
     let found = c.args.files.now.found.items in
     let i = c.loop-place.place in
     let in_found : i < length found = omega arith in
-    let one = rw c.as_str.ensures.value at c.in_ok-one.ensures.told in
+    let one = rw (c.as_str.ensures.value, c.in_ok-basis.ensures.world) at c.in_ok-one.ensures.told in
     let of_file = subst (λ one. IsOfFile (found_of one)) (sym (rw c.as_slice-found.ensures.value at c.index-found-place.is)) (c.requires.of_files i c.index-found-place.result in_found) in
     let few = few_told c.args.files.now.world (string_bytes c.index-named-place.result) (found_of c.index-found-place.result) one.piece of_file one.is in
     omega (arith, one.refused_is, few.1, c.loop-place.invariant.few_refused, in_found, c.requires.few, c.requires.number)
@@ -87,7 +87,7 @@ loop-place-preserved g c =
     let in_found : i < length found = omega arith in
     let at_name = name_at string_bytes named i c.index-named-place.result in_named c.index-named-place.is in
     let at_file = name_at found_of found i c.index-found-place.result in_found (rw c.as_slice-found.ensures.value at c.index-found-place.is) in
-    let one = rw c.as_str.ensures.value at c.in_ok-one.ensures.told in
+    let one = rw (c.as_str.ensures.value, c.in_ok-basis.ensures.world) at c.in_ok-one.ensures.told in
     let of_file = subst (λ one. IsOfFile (found_of one)) (sym (rw c.as_slice-found.ensures.value at c.index-found-place.is)) (c.requires.of_files i c.index-found-place.result in_found) in
     let few = few_told c.args.files.now.world (string_bytes c.index-named-place.result) (found_of c.index-found-place.result) one.piece of_file one.is in
     record {
