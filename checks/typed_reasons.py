@@ -140,11 +140,21 @@ def is_unreached(told, error):
     return told.is_at(one, error) and any(one is each and ends(told.unit["name"], made[:at]) for made in all_lists(told.method["body"]) for at, each in enumerate(made))
 
 
+def escapes_anyhow(told, error, unreached):
+    """Whether javac tells that an exception leaves a `try` whose last list can't end, since there it goes on behind a statement that can't be reached."""
+    if not error[1].startswith("unreported.exception"):
+        return False
+    own = told.items[told.lines.at[error[0]]][0]
+    tries = [tree for tree in trees_in(told.method["body"]) if tree and tree[0] == "Finally"]
+    return any(any(each is own for each in trees_in(one[1])) and any(each is behind for each in trees_in(one[2]) for behind in unreached) for one in tries)
+
+
 def as_reached(told, errors):
     """What javac finds, with the statements that can't be reached of which it tells nothing since it has an error at their position, and
-    without a return that is missing behind such a statement, since it goes on there as if it could be."""
+    without what it finds since it goes on behind such a statement as if it could be reached: a return that is missing, an exception that leaves."""
     found = errors + [(line, "unreachable.stmt", "", column) for line, key, words, column in errors if is_unreached(told, (line, key, words, column))]
-    return [error for error in found if error[1] != "missing.ret.stmt"] if any(error[1] == "unreachable.stmt" for error in found) else errors
+    unreached = [told.items[told.lines.at[line]][0] for line, key, *_ in found if key == "unreachable.stmt"]
+    return [error for error in found if error[1] != "missing.ret.stmt" and not escapes_anyhow(told, error, unreached)] if unreached else errors
 
 
 def throws_faultily(told, one, errors):
