@@ -1,5 +1,5 @@
 mod Results
-mod Given
+pub mod Given
 mod Calls
 mod Super
 mod Births

@@ -1,5 +1,5 @@
 -- The statements of a tree of one block are flat.
-use Rattle.std.proofs.Common.{◌≡◌, ℕ, zero, suc, ◌==◌, Bool, true, false, List, [], ◌∷◌, ◌++◌, Option, Some, None, refl, subst}
+use Rattle.std.proofs.Common.{◌≡◌, ℕ, zero, suc, ◌==◌, Bool, true, false, length, List, [], ◌∷◌, ◌++◌, Option, Some, None, refl, subst}
 use Rattle.std.specs.Prelude.{◌&&◌, ℤ, if◌then◌else◌}
 use Rattle.std.proofs.lemmas.Bool.{and_parts, false≢true}
 use Rattle.dj_names.specs.declared.header.Header.{Header}
@@ -38,8 +38,8 @@ use Rattle.dj_lone_exits.specs.Lone.{lone_edges}
 use Rattle.dj_declare.specs.Breaking.{list_lacks}
 use Rattle.dj_declare.specs.Escapes.{HaveNoTry}
 use Rattle.dj_declaring.specs.Returning.{opening_call}
-use Rattle.dj_one_block.specs.OneBlock.{lone_ways, first_name, lone_tree}
-use Rattle.dj_one_block.specs.Flat.{is_flat, are_flat, LoneTreesAreFlat}
+use Rattle.dj_one_block.specs.OneBlock.{lone_ways, first_name}
+use Rattle.dj_one_block.specs.Flat.{is_flat, are_flat, IsFlatTree, LoneTreesAreFlat}
 
 -- ---- what is had, if anything, is flat
 
@@ -594,7 +594,12 @@ had-flat : (found : Option Stms) (tree : Stms) → FlatList found → found ≡ 
 had-flat None tree h e = absurd (cc)
 had-flat (Some list) tree h e = let same : list ≡ tree = cc in subst (λ (list : Stms). are_flat list ≡ true) same h
 
-pub lone-flat : LoneTreesAreFlat
-lone-flat known parts tree e =
-    let flat = had-flat (lone_tree known parts) tree (rebuilt-flat (lone_ways known parts) (lone-ways-flat known parts) known.headers parts.typed.code.class (is_start parts.starts) (first_name parts) _ [] parts.typed.code.instructions) e in
+-- what stands for any of its instructions is flat, whatever names the slots have
+pub rest-flat : (known : Surroundings) (parts : Parts) (names : Names) (n : ℕ) (stack : List Pending) (list : Instructions) (tree : Stms)
+    → rebuilt known.headers parts.typed.code.class (lone_ways known parts) (is_start parts.starts) names n stack list ≡ Some tree → IsFlatTree tree
+rest-flat known parts names n stack list tree e =
+    let flat = had-flat (rebuilt known.headers parts.typed.code.class (lone_ways known parts) (is_start parts.starts) names n stack list) tree (rebuilt-flat (lone_ways known parts) (lone-ways-flat known parts) known.headers parts.typed.code.class (is_start parts.starts) names n stack list) e in
     record { flat = flat; quiet = flat-quiet tree flat; lacks = λ label. flat-lacks label tree flat; plain = flat-plain tree flat; closed = λ label. flat-closed label tree flat }
+
+pub lone-flat : LoneTreesAreFlat
+lone-flat known parts tree e = rest-flat known parts (first_name parts) (length parts.vars.kinds) [] parts.typed.code.instructions tree e

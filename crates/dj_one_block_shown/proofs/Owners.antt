@@ -5,17 +5,20 @@ use Rattle.std.proofs.lemmas.Bool.{and_parts, ltb-true, lt-ltb, eqb-true, false�
 use Rattle.std.proofs.lemmas.Bool.Decides.{eqb_tells}
 use Rattle.std.proofs.lemmas.Option.{slice_get_within, slice_get_past}
 use Rattle.dj_names.specs.declared.header.Header.{Header}
+use Rattle.dj_names.specs.MethodNames.{is_constructor}
 use Rattle.dj_names.specs.Types.{JType, Class, Of, result_of, parameters_of}
 use Rattle.dj_syntax.specs.declared.variable.Var.{Var}
 use Rattle.dj_instructions.specs.declared.kinds.Kind.{Kind}
 use Rattle.dj_instructions.specs.declared.kinds.Kind.TheVariants as kinds
-use Rattle.dj_instructions.specs.Instructions.{Instruction, Instructions, IsRising}
+use Rattle.dj_instructions.specs.Instructions.{MethodRef, Instruction, Instructions, IsRising}
 use Rattle.dj_instructions.specs.Instructions as op
 use Rattle.dj_frames.specs.Frames.{Tag}
 use Rattle.dj_code.specs.MethodCode.{Code, Typed}
 use Rattle.dj_tags.specs.Goes.{Working}
 use Rattle.dj_tags.specs.Laxly.{Strictly}
-use Rattle.dj_effects.specs.Rows.{leave, work}
+use Rattle.dj_effects.specs.Rows.{birth, super_call, leave, work}
+use Rattle.dj_effects.specs.Spelled.{is_spelled}
+use Rattle.dj_effects.specs.Works.{Never}
 use Rattle.dj_effects.specs.Effects.{kind_words, locals_needed}
 use Rattle.dj_effects.specs.Operands.{HasOperands}
 use Rattle.dj_verify.specs.declared.rule.Rule.TheVariants as rule
@@ -88,6 +91,20 @@ returns-nothing world typed strict pc instruction has is =
     by : (result : Option JType) (frame : Working) → HasOperands (Strictly world) world typed.code pc (leave result None) frame → result ≡ None
     by None frame has = refl
     by (Some type) frame has = absurd has
+
+-- a constructor that is called gives nothing
+pub constructs-nothing : (world : List Header) (typed : Typed) → IsStrict world typed → (pc : ℕ) (method : MethodRef) → Contains typed.code.instructions (pc, op.InvokeSpecial method) → is_constructor method.name ≡ true → result_of method.descriptor ≡ None
+constructs-nothing world typed strict pc method has named =
+    let at = place-of typed.code.instructions (pc, op.InvokeSpecial method) has in
+    let kept = stays world typed strict at.0 (pc, op.InvokeSpecial method) at.1 at.2 in
+    by (is_spelled (op.InvokeSpecial method)) (is_constructor method.name) (result_of method.descriptor) kept.0 named kept.1.operands
+  where
+    by : (spelled constructs : Bool) (result : Option JType) (frame : Working) → constructs ≡ true
+        → HasOperands (Strictly world) world typed.code pc (if spelled then (if constructs then birth method.descriptor method.owner result else super_call typed.code method.descriptor method.owner) else Never) frame → result ≡ None
+    by true true None frame named has = refl
+    by true true (Some type) frame named has = absurd has
+    by true false result frame named has = absurd (false≢true named)
+    by false constructs result frame named has = absurd has
 
 -- ---- what instructions write
 
@@ -228,17 +245,18 @@ module _ (parts : Parts) (are : AreVars parts.typed parts.starts parts.vars) whe
   abbrev pub code_scope : Scope
   code_scope = tree_scope (parameters_of parts.typed.code.descriptor) parts.vars.kinds
 
-  module _ (context : Context) (class : context.class ≡ parts.typed.code.class) where
-    pub names-lawful : AreNames context base parts.typed.code.max_locals code_scope owner (first_name parts)
+  -- with fresh variables from a number on that is past those of the code
+  module _ (n : ℕ) (low : base ≤ n) (context : Context) (class : context.class ≡ parts.typed.code.class) where
+    pub names-lawful : AreNames context n parts.typed.code.max_locals code_scope owner (first_name parts)
     names-lawful = record {
       within = λ slot type atom e. ltb-true slot parts.typed.code.max_locals (name-at slot type atom e).0;
       entries = λ slot type atom e. are-entries slot type atom (name-at slot type atom e).1;
       owned = λ slot type variable e. are-owned slot type (Named variable) (name-at slot type (Named variable) e).1 variable refl;
     }
       where
-        are-entries : (slot : ℕ) (type : JType) (atom : Atom) → NameAt slot type atom → IsEntry context base code_scope (atom_type type atom) (exp_of atom)
+        are-entries : (slot : ℕ) (type : JType) (atom : Atom) → NameAt slot type atom → IsEntry context n code_scope (atom_type type atom) (exp_of atom)
         are-entries slot type atom (by_this keeps first) = record { small = tt; typed = ap (λ (name : List ℕ). Some (Of (Class name))) class }
-        are-entries slot type atom (by_variable {variable} {type = kind} other named is) = record { small = slice_get_within parts.vars.kinds variable kind is; typed = ap (λ (found : Option JType). static_types.typed (local_type found false)) is }
+        are-entries slot type atom (by_variable {variable} {type = kind} other named is) = record { small = (let less = slice_get_within parts.vars.kinds variable kind is in omega (arith, less, low)); typed = ap (λ (found : Option JType). static_types.typed (local_type found false)) is }
 
         are-owned : (slot : ℕ) (type : JType) (atom : Atom) → NameAt slot type atom → (variable : Var) → atom ≡ Named variable → owner variable ≡ slot
         are-owned slot type atom (by_this keeps first) variable same = absurd (cc)
@@ -246,17 +264,17 @@ module _ (parts : Parts) (are : AreVars parts.typed parts.starts parts.vars) whe
             let mine = are.of_type 0 slot number named in
             subst (λ (one : Var). owner one ≡ slot) (let is_it : local_variable number ≡ variable = cc in is_it) (owner-of slot number mine.0 mine.1 mine.2)
 
-    pub begins-ready : IsReady context base code_scope base code_scope []
+    pub begins-ready : IsReady context n code_scope n code_scope []
     begins-ready = record {
       low = omega arith;
-      clear = λ k less. ap (λ (found : Option JType). local_type found false) (slice_get_past parts.vars.kinds k less);
+      clear = λ k less. ap (λ (found : Option JType). local_type found false) (slice_get_past parts.vars.kinds k (omega (arith, less, low)));
       same = λ variable below. refl;
       entries = tt;
     }
 
   -- ---- what is written
 
-  module _ (world : List Header) (strict : IsStrict world parts.typed) (ways : Ways) (target : (pc : ℕ) → ways.target pc ≡ variable_of parts.vars.kinds (parts.vars.after pc)) where
+  module _ (n : ℕ) (low : base ≤ n) (world : List Header) (strict : IsStrict world parts.typed) (ways : Ways) (target : (pc : ℕ) → ways.target pc ≡ variable_of parts.vars.kinds (parts.vars.after pc)) where
     same-slot-at : (place : ℕ) (pc : ℕ) (instruction : Instruction) (rest : Instructions) → drop place parts.typed.code.instructions ≡ (pc, instruction) ∷ rest → (slot other : ℕ) (type : JType) → own_slot instruction ≡ Some slot → WritesAt parts.typed pc other type → other ≡ slot
     same-slot-at place pc instruction rest here slot other type own writes =
         let at = writes.at in
@@ -276,9 +294,9 @@ module _ (parts : Parts) (are : AreVars parts.typed parts.starts parts.vars) whe
             impossible e = cc
 
     abbrev Owned : ℕ → Var → JType → Type 0
-    Owned slot variable type = (slot < parts.typed.code.max_locals) × (variable.number < base) × (code_scope variable ≡ Some type) × (owner variable ≡ slot)
+    Owned slot variable type = (slot < parts.typed.code.max_locals) × (variable.number < n) × (code_scope variable ≡ Some type) × (owner variable ≡ slot)
 
-    one-owns : (place : ℕ) (pc : ℕ) (instruction : Instruction) (rest : Instructions) → drop place parts.typed.code.instructions ≡ (pc, instruction) ∷ rest → Owns base parts.typed.code.max_locals code_scope owner ways pc instruction
+    one-owns : (place : ℕ) (pc : ℕ) (instruction : Instruction) (rest : Instructions) → drop place parts.typed.code.instructions ≡ (pc, instruction) ∷ rest → Owns n parts.typed.code.max_locals code_scope owner ways pc instruction
     one-owns place pc instruction rest here =
         let kept = stays world parts.typed strict place (pc, instruction) rest here in
         record {
@@ -294,13 +312,13 @@ module _ (parts : Parts) (are : AreVars parts.typed parts.starts parts.vars) whe
         kinded slot number own within after variable type (Some kind) is e =
             let same : (local_variable number, kind) ≡ (variable, type) = some-is (local_variable number, kind) (variable, type) e in
             subst (λ (one : Var × JType). Owned slot one.0 one.1) same
-            (within, slice_get_within parts.vars.kinds number kind is, ap (λ (found : Option JType). local_type found false) is, owner-written place pc instruction rest here slot number own after)
+            (within, (let less = slice_get_within parts.vars.kinds number kind is in omega (arith, less, low)), ap (λ (found : Option JType). local_type found false) is, owner-written place pc instruction rest here slot number own after)
 
         owned : (slot : ℕ) → own_slot instruction ≡ Some slot → slot < parts.typed.code.max_locals → (variable : Var) (type : JType) (after : Option ℕ) → parts.vars.after pc ≡ after → variable_of parts.vars.kinds after ≡ Some (variable, type) → Owned slot variable type
         owned slot own within variable type None after e = absurd (cc)
         owned slot own within variable type (Some number) after e = kinded slot number own within after variable type (slice_get parts.vars.kinds number) refl e
 
-    pub all-own : (part : Instructions) (place : ℕ) → drop place parts.typed.code.instructions ≡ part → AllOwn base parts.typed.code.max_locals code_scope owner ways part
+    pub all-own : (part : Instructions) (place : ℕ) → drop place parts.typed.code.instructions ≡ part → AllOwn n parts.typed.code.max_locals code_scope owner ways part
     all-own [] place e = tt
     all-own (first ∷ rest) place e = (one-owns place first.0 first.1 rest e, all-own rest (suc place) (drop-next parts.typed.code.instructions place first rest e))
       where

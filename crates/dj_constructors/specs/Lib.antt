@@ -1,0 +1,3 @@
+-- Constructors whose code is one block, in reading order.
+pub mod Opening
+pub mod Shown
