@@ -1,5 +1,7 @@
 import java.io.File;
+import java.io.FilePermission;
 import java.io.IOException;
+import java.io.PrintWriter;
 import java.lang.reflect.Array;
 import java.lang.reflect.Constructor;
 import java.lang.reflect.Executable;
@@ -7,10 +9,13 @@ import java.lang.reflect.Field;
 import java.lang.reflect.InvocationTargetException;
 import java.lang.reflect.Method;
 import java.lang.reflect.Modifier;
+import java.net.SocketPermission;
 import java.net.URL;
 import java.net.URLClassLoader;
 import java.nio.file.Files;
+import java.nio.file.InvalidPathException;
 import java.nio.file.Path;
+import java.security.Permission;
 import java.util.ArrayList;
 import java.util.Arrays;
 import java.util.Comparator;
@@ -28,13 +33,14 @@ import jdk.internal.org.objectweb.asm.ClassWriter;
 import jdk.internal.org.objectweb.asm.tree.ClassNode;
 import jdk.internal.org.objectweb.asm.tree.MethodNode;
 
-/** What `grafts.py` asks of the JDK: `graft METHODS FILES COMPILED OUT`, and `run CALLS SEED FIRST SECOND PATH..`. */
+/** What `grafts.py` asks of the JDK: `graft METHODS FILES COMPILED OUT`, and `run OUT CALLS TRIES SEED SKIPPED CLASSES PATH..`. */
 public class Grafts {
     public static void main(String[] words) throws Exception {
         if (words[0].equals("graft")) {
             graft(Path.of(words[1]), Path.of(words[2]), Path.of(words[3]), Path.of(words[4]));
         } else {
-            run(Integer.parseInt(words[1]), Long.parseLong(words[2]), Path.of(words[3]), Path.of(words[4]), Arrays.copyOfRange(words, 5, words.length));
+            List<String> skipped = List.of(words[5].split(","));
+            run(Path.of(words[1]), Integer.parseInt(words[2]), Integer.parseInt(words[3]), Long.parseLong(words[4]), skipped, Path.of(words[6]), Arrays.copyOfRange(words, 7, words.length));
         }
     }
 
@@ -240,38 +246,65 @@ public class Grafts {
         }
     }
 
-    static void run(int calls, long seed, Path first, Path second, String[] path) throws Exception {
-        System.setOut(new java.io.PrintStream(new java.io.FileOutputStream("/dev/fd/1"), true));
-        ClassLoader one = loader(first, path), other = loader(second, path);
-        List<String> names = names(first);
-        int differ = 0, made = 0;
-        for (String name : names) {
-            String before = state(name, one), after = state(name, other);
-            if (!before.equals(after)) {
-                System.out.println("differs " + name + ": " + before + " / " + after);
-                differ++;
+    /** Keeps calls from writing outside the folder that they run in, from other programs and sockets, and from ending the JVM. */
+    static class Keeper extends SecurityManager {
+        private final Path folder = Path.of("").toAbsolutePath();
+        private volatile boolean open;
+
+        @Override
+        public void checkPermission(Permission asked) {
+            if (!open && (asked instanceof FilePermission ? !reads(asked) && !isInside(asked.getName()) : isRefused(asked))) {
+                throw new SecurityException("kept from " + asked.getClass().getName());
             }
         }
+
+        private static boolean reads(Permission asked) {
+            return asked.getActions().equals("read") || asked.getActions().equals("readlink");
+        }
+
+        private static boolean isRefused(Permission asked) {
+            return asked instanceof SocketPermission || asked.getName().startsWith("exitVM") || asked.getName().equals("setIO") || asked.getName().equals("setSecurityManager");
+        }
+
+        private boolean isInside(String name) {
+            try {
+                return Path.of(name).toAbsolutePath().normalize().startsWith(folder);
+            } catch (InvalidPathException bad) {
+                return false;
+            }
+        }
+    }
+
+    /** A text on one line of ASCII. */
+    static String line(String text) {
+        StringBuilder all = new StringBuilder();
+        for (char unit : text.toCharArray()) {
+            all.append(unit >= ' ' && unit <= '~' ? String.valueOf(unit) : String.format("\\u%04x", (int) unit));
+        }
+        return all.toString();
+    }
+
+    /** Tells in lines what each class says, and what each try of a call came to, till so many calls are made; an empty line where none was, as where the try is to be skipped. */
+    static void run(Path out, int calls, int tries, long seed, List<String> skipped, Path classes, String[] path) throws Exception {
+        PrintWriter told = new PrintWriter(Files.newBufferedWriter(out), true);
+        ClassLoader loader = loader(classes, path);
+        List<String> names = names(classes);
+        Keeper keeper = new Keeper();
+        System.setSecurityManager(keeper);
+        for (String name : names) {
+            told.println("class " + name + " " + line(state(name, loader)));
+        }
         Random random = new Random(seed);
-        for (int tries = 0; made < calls && tries < 20 * calls; tries++) {
+        for (int tried = 0, made = 0; tried < tries && made < calls; tried++) {
             String name = names.get(random.nextInt(names.size()));
             int which = random.nextInt(1 << 20);
             long arguments = random.nextLong();
-            String before = outcome(name, which, arguments, one);
-            String again = before == null ? null : outcome(name, which, arguments, one);
-            String after = before == null ? null : outcome(name, which, arguments, other);
-            String behind = before == null ? null : outcome(name, which, arguments, other);
-            // What differs from one call to the next, as times and random numbers do, tells nothing.
-            if (before == null || !before.equals(again)) {
-                continue;
-            }
-            made++;
-            if (!before.equals(after)) {
-                System.out.println("differs " + before + "\n  / " + after);
-                differ++;
-            }
+            String outcome = skipped.contains(String.valueOf(tried)) ? null : outcome(name, which, arguments, loader);
+            told.println(outcome == null ? "" : line(outcome));
+            made += outcome == null ? 0 : 1;
         }
-        System.out.println("classes " + names.size() + " calls " + made + " differ " + differ);
-        System.exit(differ == 0 ? 0 : 1);
+        told.println("end");
+        keeper.open = true;
+        Runtime.getRuntime().halt(0);
     }
 }
