@@ -26,12 +26,11 @@ use Rattle.dj_effects.specs.Effects.{or_top}
 use Rattle.dj_effects.specs.Rows.{work}
 use Rattle.dj_class.specs.Described.{MethodOf}
 use Rattle.dj_verify.specs.Rules.{head_of, entry}
-use Rattle.dj_sound.specs.States.{table_of}
+use Rattle.dj_sound.specs.States.{table_of, IsStrict}
 use Rattle.dj_typing.specs.Sites.{Site, is_whole, may_name, may_name_type}
 use Rattle.dj_code_causes.specs.Floats.{has_float, gives_float, spells_float, is_float_kind, works_on_float}
 use Rattle.dj_code_causes.specs.NamedIn.{in_descriptor}
-use Rattle.dj_members_shown.specs.Meant.{Receiver}
-use Rattle.dj_member_nodes.specs.Named.{AreNamed}
+use Rattle.dj_member_nodes.specs.Named.{RootsAreNamed, AreNamed, IsNamed}
 use Rattle.dj_blocks_formed.proofs.Spilled.{named-whole}
 use Rattle.dj_vars.specs.Slots.{from_bottom, slot_tag, type_of_tag, type_of_slot}
 use Rattle.dj_vars.specs.Naming.{Begins, Writes, by_store, by_count, HasType, at_start, by_write, AreVars, SaysReferences}
@@ -41,7 +40,7 @@ use Rattle.dj_declare.specs.Heads.{has_dummy}
 use Rattle.dj_declaring.specs.Bodies.{Writing}
 use Rattle.dj_declaring.specs.Starting.{MayEnter}
 use Rattle.dj_method.specs.Parts.{entry_of}
-use Rattle.dj_one_block_formed.specs.Ready.{site_of, IsSpokenFor}
+use Rattle.dj_one_block_formed.specs.Ready.{site_of}
 use Rattle.dj_one_block_formed.specs.Entering.{IsSaidThrough, VariablesMayEnter}
 use Rattle.dj_one_block_formed.proofs.Naming.{AreSaid, SaysWell, table-well, entry-well, said-slot, type-said}
 use Rattle.dj_one_block_formed.proofs.Said.{parameters-named, given-said}
@@ -295,7 +294,7 @@ plain-parameter (first ∷ rest) plain zero given e = ap has_float (sym (same-ty
 plain-parameter (first ∷ rest) plain (suc place) given e = plain-parameter rest (neither-of (has_float first) (list_any has_float rest) plain).1 place given e
 
 -- its class can be named
-named-parameter : (site : Site) (parameters : List JType) → AreNamed site parameters → (place : ℕ) (given : JType) → slice_get parameters place ≡ Some given → may_name_type site given ≡ true
+pub named-parameter : (site : Site) (parameters : List JType) → AreNamed site parameters → (place : ℕ) (given : JType) → slice_get parameters place ≡ Some given → may_name_type site given ≡ true
 named-parameter site [] are place given e = absurd (no-type given e)
 named-parameter site (first ∷ rest) are zero given e = subst (λ one. may_name_type site one ≡ true) (same-type first given e) are.0
 named-parameter site (first ∷ rest) are (suc place) given e = named-parameter site rest are.1 place given e
@@ -363,7 +362,14 @@ only-start starts one block start e = by block (subst (λ (list : List ℕ). sli
     by zero e = cc
     by (suc block) e = absurd (cc)
 
-module _ (world : List Header) (members : List ClassMembers) (writing : Writing) (receivers : ℕ → Receiver) (parts : Parts) (spoken : IsSpokenFor world members writing receivers parts)
+-- what the variables of code rest on: its class and all that it names can be said, and it keeps Java's rules by its frames
+pub record IsSaidRight (site : Site) (world : List Header) (parts : Parts) : Type 0 where
+  pub roots : RootsAreNamed site
+  pub named : may_name site parts.typed.code.class ≡ true
+  pub names : (pc : ℕ) (instruction : Instruction) → Contains parts.typed.code.instructions (pc, instruction) → IsNamed site instruction
+  pub strict : IsStrict world parts.typed
+
+module _ (world : List Header) (members : List ClassMembers) (writing : Writing) (parts : Parts) (spoken : IsSaidRight (site_of writing world members parts.typed.code) world parts)
     (said : IsSaidThrough (site_of writing world members parts.typed.code) parts.typed.code) (speaks : SaysReferences parts.typed) (are : AreVars parts.typed parts.starts parts.vars) (one : parts.starts ≡ 0 ∷ []) (some : parts.typed.code.instructions ≢ []) where
   abbrev site : Site
   site = site_of writing world members parts.typed.code
@@ -378,7 +384,7 @@ module _ (world : List Header) (members : List ClassMembers) (writing : Writing)
   frame-well : (place : ℕ) (frame : Working) → slice_get (table_of parts.typed) place ≡ Some frame → SaysWell site frame
   frame-well place frame e =
       table-well site (Strictly world) world code spoken.named spoken.roots (given-said site code said.classes) (Some (entry code)) code.instructions (table_of parts.typed) (entry-well site code spoken.named parameters-are)
-      (λ at there. ((spoken.allowed at.0 at.1 there).named, said.linked at.0 at.1 there)) spoken.strict.table.are place frame e
+      (λ at there. (spoken.names at.0 at.1 there, said.linked at.0 at.1 there)) spoken.strict.table.are place frame e
 
   first : BeginsWell world parts.typed (table_of parts.typed)
   first = begins-well world parts.typed code.instructions refl some spoken.strict.rising (table_of parts.typed) (number-is) spoken.strict.table.are
@@ -462,24 +468,38 @@ module _ (world : List Header) (members : List ClassMembers) (writing : Writing)
           let of : parts.vars.of 0 slot ≡ Some number = cc in
           variable-takes slot number of to kind given (plain-parameter (parameters_of code.descriptor) (plain-in code.descriptor said.plain) place given wanted) (entry-slot code place slot given is wanted)
 
-  -- that of `this`
-  this-takes : (number : ℕ) (to : JType) → (entry_of parts).itself ≡ Some number → slice_get parts.vars.kinds number ≡ Some to
-      → (site.has_this ≡ true) × (is_whole site.headers site.class ≡ true) × (may_copy site.headers (Class site.class) to ≡ true)
-  this-takes number to e kind = by (is_static code.flags) refl e
-    where
-      by : (static : Bool) → is_static code.flags ≡ static → (if static then None else parts.vars.of 0 0) ≡ Some number → (site.has_this ≡ true) × (is_whole site.headers site.class ≡ true) × (may_copy site.headers (Class site.class) to ≡ true)
-      by true is e = absurd (cc)
-      by false is e = (
-        ap not is,
-        named-whole site (Class code.class) spoken.named,
-        variable-takes 0 number e to kind (Class code.class) refl (this-slot code is (ap (λ (test : Bool). test && not (bytes_eq code.class object_name)) spoken.plain)),
-      )
+  -- what `this` is by the first slot
+  pub this-takes : slice_get (entry code).locals 0 ≡ Some (tag_of (Class code.class)) → (number : ℕ) (to : JType) → parts.vars.of 0 0 ≡ Some number → slice_get parts.vars.kinds number ≡ Some to
+      → (is_whole site.headers site.class ≡ true) × (may_copy site.headers (Class site.class) to ≡ true)
+  this-takes first number to e kind = (named-whole site (Class code.class) spoken.named, variable-takes 0 number e to kind (Class code.class) refl first)
 
-  pub variables-enter : MayEnter site (parameters_of code.descriptor) parts.vars.kinds (entry_of parts)
-  variables-enter = record {
+  -- a slot that holds what isn't born has no variable
+  pub unborn-none : (slot : ℕ) → slice_get (entry code).locals slot ≡ Some UnbornThis → (number : ℕ) → parts.vars.of 0 slot ≡ Some number → ⊥
+  unborn-none slot unborn number of = by (slot_tag code first.frame slot) refl (sym (are.first 0 first.frame begins slot) ∙ of)
+    where
+      by : (found : Option Tag) → slot_tag code first.frame slot ≡ found → option_map (are.number slot) (type_of_slot found) ≡ Some number → ⊥
+      by None is e = cc
+      by (Some tag) is e =
+          inner tag (subst (λ found. LocalGoes (Strictly world) (or_top found) tag) unborn (first.goes slot tag (local-tag code first.frame first.empty slot tag is))) e
+        where
+          inner : (tag : Tag) → LocalGoes (Strictly world) UnbornThis tag → option_map (are.number slot) (type_of_tag tag) ≡ Some number → ⊥
+          inner Top goes e = cc
+          inner Int goes e = let same : UnbornThis ≡ Int = goes in cc
+          inner Float goes e = let same : UnbornThis ≡ Float = goes in cc
+          inner Double goes e = let same : UnbornThis ≡ Double = goes in cc
+          inner Long goes e = let same : UnbornThis ≡ Long = goes in cc
+          inner Null goes e = let same : UnbornThis ≡ Null = goes in cc
+          inner UnbornThis goes e = cc
+          inner (Object one) goes e = goes
+          inner (Unborn pc) goes e = let same : UnbornThis ≡ Unborn pc = goes in cc
+
+  pub variables-enter : ((number : ℕ) (to : JType) → (entry_of parts).itself ≡ Some number → slice_get parts.vars.kinds number ≡ Some to
+      → (site.has_this ≡ true) × (is_whole site.headers site.class ≡ true) × (may_copy site.headers (Class site.class) to ≡ true))
+      → MayEnter site (parameters_of code.descriptor) parts.vars.kinds (entry_of parts)
+  variables-enter itself = record {
     written = λ number one e. (kind-good number one e).named;
     dummies = λ number one e. (kind-good number one e).dummy;
-    itself = this-takes;
+    itself = itself;
     copies = λ place number given to e wanted kind. (
       named-whole site given (named-parameter site (parameters_of code.descriptor) parameters-are place given wanted),
       parameter-takes place number given to e wanted kind,
@@ -487,4 +507,19 @@ module _ (world : List Header) (members : List ClassMembers) (writing : Writing)
   }
 
 pub variables-may-enter : VariablesMayEnter
-variables-may-enter world members writing receivers parts spoken said speaks are one some = variables-enter world members writing receivers parts spoken said speaks are one some
+variables-may-enter world members writing receivers parts spoken said speaks are one some = variables-enter world members writing parts whole said speaks are one some this-there
+  where
+    whole : IsSaidRight (site_of writing world members parts.typed.code) world parts
+    whole = record { roots = spoken.roots; named = spoken.named; names = λ pc instruction there. (spoken.allowed pc instruction there).named; strict = spoken.strict }
+
+    this-there : (number : ℕ) (to : JType) → (entry_of parts).itself ≡ Some number → slice_get parts.vars.kinds number ≡ Some to
+        → ((site_of writing world members parts.typed.code).has_this ≡ true) × (is_whole world parts.typed.code.class ≡ true) × (may_copy world (Class parts.typed.code.class) to ≡ true)
+    this-there number to e kind = by (is_static parts.typed.code.flags) refl e
+      where
+        by : (static : Bool) → is_static parts.typed.code.flags ≡ static → (if static then None else parts.vars.of 0 0) ≡ Some number
+            → ((site_of writing world members parts.typed.code).has_this ≡ true) × (is_whole world parts.typed.code.class ≡ true) × (may_copy world (Class parts.typed.code.class) to ≡ true)
+        by true is e = absurd (cc)
+        by false is e =
+            let takes = this-takes world members writing parts whole said speaks are one some
+            (this-slot parts.typed.code is (ap (λ (test : Bool). test && not (bytes_eq parts.typed.code.class object_name)) spoken.plain)) number to e kind in
+            (ap not is, takes.0, takes.1)
