@@ -1,8 +1,8 @@
 -- Instructions of a method without a cause may stand in source.
-use Rattle.std.proofs.Common.{◌≡◌, ℕ, suc, ◌==◌, Bool, true, false, [], ◌∷◌, length, Contains, Option, Some, None, inl, refl, sym, ap, subst, ◌∙◌, arith}
+use Rattle.std.proofs.Common.{◌≡◌, ℕ, suc, ◌==◌, Bool, true, false, [], ◌∷◌, length, Contains, Option, Some, None, inl, inr, refl, sym, ap, subst, ◌∙◌, arith}
 use Rattle.std.specs.Prelude.{map, if◌then◌else◌}
 use Rattle.std.specs.List.{list_any}
-use Rattle.std.proofs.lemmas.Bool.{both_ways, eqb-true}
+use Rattle.std.proofs.lemmas.Bool.{both_ways, cases_Bool, eqb-true}
 use Rattle.std.proofs.lemmas.List.{length-map}
 use Rattle.dj_names.specs.Headers.{Name, names}
 use Rattle.dj_names.specs.MethodNames.{is_constructor}
@@ -24,7 +24,7 @@ use Rattle.dj_typing.specs.Expressions.{means_abstract}
 use Rattle.dj_typed.specs.Bodies.{Writing}
 use Rattle.dj_typed.specs.Stores.{may_assign}
 use Rattle.dj_meant.specs.Meant as meant
-use Rattle.dj_meant.specs.Meant.{exact, Receiver, Made, Other}
+use Rattle.dj_meant.specs.Meant.{exact, Receiver, Made, Begun, Other, IsOfConstruct}
 use Rattle.dj_receivers.specs.OwnCalls.{calls_own}
 use Rattle.dj_receivers.specs.Receivers.{IsOnThis}
 use Rattle.dj_code_causes.specs.NamedIn.{IsInCode, in_instruction}
@@ -33,10 +33,11 @@ use Rattle.dj_member_cause.specs.Lacking.{LacksMember}
 use Rattle.dj_member_nodes.specs.Named.{RootsAreNamed, IsNamed, IsBehindSuper, IsAllowed}
 use Rattle.dj_member_nodes.specs.Named as named
 use Rattle.dj_standing.proofs.Places.{frame-there}
-use Rattle.dj_given.specs.Given.{site_of, CallsNoOwn, AllIsNamed, AllAreAllowed}
+use Rattle.dj_birth_causes.specs.OwnCalls.{IsOwnCall}
+use Rattle.dj_given.specs.Given.{site_of, AllIsNamed, OthersAreAllowed}
 use Rattle.dj_given.proofs.Above.{not_listed}
-use Rattle.dj_given.proofs.Members.{served, no_own_call}
-use Rattle.dj_given.proofs.Spelled.{from_place, in_place, stands_in}
+use Rattle.dj_given.proofs.Members.{served, no_own_call, own_served, own_means}
+use Rattle.dj_given.proofs.Spelled.{from_place, in_place, stands_in, passes_there}
 
 one_class : (one other : Name) → Class one ≡ Class other → one ≡ other
 one_class one other e = cc
@@ -101,7 +102,7 @@ found_in (first ∷ rest) pc instruction e = by (first.0 == pc) refl e (found_in
 module _ (world : WorldOf) (typed : Typed) (writing : Writing) (lawful : IsLawful world.headers) (all_named : AllIsNamed writing world typed.code)
     (there : (name : Name) → IsInCode typed.code name → Contains (names world.headers) name)
     (table : IsTyped (Laxly world.headers) world.headers typed) (rising : IsRising typed.code.instructions)
-    (member : (pc : ℕ) → ¬ LacksMember world typed pc) (no_own : CallsNoOwn typed) where
+    (member : (pc : ℕ) → ¬ LacksMember world typed pc) where
   abbrev site : Site
   site = site_of writing world typed.code
 
@@ -109,7 +110,8 @@ module _ (world : WorldOf) (typed : Typed) (writing : Writing) (lawful : IsLawfu
   record IsServedAt (pc : ℕ) (instruction : Instruction) : Type 0 where
     receiver : Receiver
     has : meant.HasMember site.headers site.members site.class (may_assign site) receiver instruction
-    born : (method : MethodRef) → instruction ≡ InvokeSpecial method → is_constructor method.name ≡ true → receiver ≡ Made
+    born : ¬ IsOwnCall typed pc → (method : MethodRef) → instruction ≡ InvokeSpecial method → is_constructor method.name ≡ true → receiver ≡ Made
+    begun : IsOwnCall typed pc → receiver ≡ Begun
 
   many : length typed.frames ≡ length typed.code.instructions
   many = sym (length-map typed.frames top_down) ∙ table.number
@@ -118,11 +120,25 @@ module _ (world : WorldOf) (typed : Typed) (writing : Writing) (lawful : IsLawfu
   served_at pc instruction (k, within, is) =
       let (rest, e) = from_place typed.code.instructions k (pc, instruction) within is in
       let (frame, here) = frame-there typed.code.instructions typed.frames k (pc, instruction) rest many e in
-      let one = served world.headers (map view_members world.members) typed.code.class (IsOnThis typed pc) frame instruction
-      (no_own_call instruction frame (λ calls. no_own pc (stands_in calls_own typed.code.instructions typed.frames k pc instruction frame within is here calls)))
-      (λ lacks. member pc (in_place (λ at one found. (pc ≡ at) × ¬ HasMember world.headers (map view_members world.members) typed.code.class (IsOnThis typed pc) found one)
-      typed.code.instructions typed.frames k pc instruction frame within is here (refl, lacks))) in
-      record { receiver = one.receiver; has = one.has; born = one.born }
+      let not_lacking : ¬ ¬ HasMember world.headers (map view_members world.members) typed.code.class (IsOnThis typed pc) frame instruction = λ lacks. member pc (in_place (λ at one found. (pc ≡ at) × ¬ HasMember world.headers (map view_members world.members) typed.code.class (IsOnThis typed pc) found one)
+      typed.code.instructions typed.frames k pc instruction frame within is here (refl, lacks)) in
+      elim (cases_Bool (calls_own instruction frame)) [
+        | inl own ↦ record {
+          receiver = Begun;
+          has = own_served world.headers (map view_members world.members) typed.code.class (IsOnThis typed pc) frame instruction own not_lacking;
+          born = λ not_own. absurd (not_own (stands_in calls_own typed.code.instructions typed.frames k pc instruction frame within is here own));
+          begun = λ calls. refl;
+        }
+        | inr other ↦ (
+            let one = served world.headers (map view_members world.members) typed.code.class (IsOnThis typed pc) frame instruction
+            (no_own_call instruction frame (λ calls. both_ways (calls_own instruction frame) other calls)) not_lacking in
+            record {
+              receiver = one.receiver;
+              has = one.has;
+              born = λ not_own. one.born;
+              begun = λ calls. absurd (both_ways (calls_own instruction frame) other (passes_there calls_own typed.code.instructions typed.frames k pc instruction frame rising within is here calls));
+            })
+      ]
 
   receiver_of : (pc : ℕ) (found : Option Instruction) → instruction_at typed.code.instructions pc ≡ found → Receiver
   receiver_of pc None none = Other
@@ -147,21 +163,36 @@ module _ (world : WorldOf) (typed : Typed) (writing : Writing) (lawful : IsLawfu
   owner_there : (pc : ℕ) (method : MethodRef) → Contains typed.code.instructions (pc, InvokeSpecial method) → (name : Name) → method.owner ≡ Class name → Contains (names world.headers) name
   owner_there pc method (k, within, is) name owner = there name (in_instruction (k, (pc, InvokeSpecial method), within, is, inl (ap class_of owner)))
 
-  allowed : (pc : ℕ) (instruction : Instruction) → Contains typed.code.instructions (pc, instruction) → IsAllowed site receivers pc instruction
+  member_at : (pc : ℕ) (instruction : Instruction) → instruction_at typed.code.instructions pc ≡ Some instruction → meant.HasMember site.headers site.members site.class (may_assign site) (receivers pc) instruction
   unfolding receivers
-  allowed pc instruction has = record {
-    member = member_at;
+  member_at pc instruction at =
+      by_receiver pc instruction (λ receiver. meant.HasMember site.headers site.members site.class (may_assign site) receiver instruction) (λ is. (served_at pc instruction is).has) (instruction_at typed.code.instructions pc) refl at
+
+  allowed : (pc : ℕ) (instruction : Instruction) → Contains typed.code.instructions (pc, instruction) → ¬ IsOwnCall typed pc → IsAllowed site receivers pc instruction
+  unfolding receivers
+  allowed pc instruction has not_own = record {
+    member = member_at pc instruction at;
     concrete = λ method same plain above behind. concrete_lawful site lawful all_named.roots method plain (owner_there pc method (subst (λ (one : Instruction). Contains typed.code.instructions (pc, one)) same has)) (receivers pc)
-        (lawful_of site (receivers pc) method (subst (λ (one : Instruction). meant.HasMember site.headers site.members site.class (may_assign site) (receivers pc) one) same member_at)) above behind;
-    born = λ method same constructs. by_receiver pc instruction (λ receiver. receiver ≡ Made) (λ is. (served_at pc instruction is).born method same constructs) (instruction_at typed.code.instructions pc) refl at;
+        (lawful_of site (receivers pc) method (subst (λ (one : Instruction). meant.HasMember site.headers site.members site.class (may_assign site) (receivers pc) one) same (member_at pc instruction at))) above behind;
+    born = λ method same constructs. by_receiver pc instruction (λ receiver. receiver ≡ Made) (λ is. (served_at pc instruction is).born not_own method same constructs) (instruction_at typed.code.instructions pc) refl at;
     named = all_named.instructions pc instruction has;
   }
     where
       at : instruction_at typed.code.instructions pc ≡ Some instruction
       at = stands_there typed.code.instructions pc instruction rising has
 
-      member_at : meant.HasMember site.headers site.members site.class (may_assign site) (receivers pc) instruction
-      member_at = by_receiver pc instruction (λ receiver. meant.HasMember site.headers site.members site.class (may_assign site) receiver instruction) (λ is. (served_at pc instruction is).has) (instruction_at typed.code.instructions pc) refl at
+  -- the call of another constructor on `this` has the one that source means by it
+  own : (pc : ℕ) (method : MethodRef) → Contains typed.code.instructions (pc, InvokeSpecial method) → IsOwnCall typed pc → is_constructor method.name ≡ true → IsOfConstruct site.headers site.members site.class method
+  unfolding receivers
+  own pc method has calls constructs =
+      own_means world.headers (map view_members world.members) typed.code.class method constructs
+      (subst (λ (receiver : Receiver). meant.HasMember site.headers site.members site.class (may_assign site) receiver (InvokeSpecial method)) begun (member_at pc (InvokeSpecial method) at))
+    where
+      at : instruction_at typed.code.instructions pc ≡ Some (InvokeSpecial method)
+      at = stands_there typed.code.instructions pc (InvokeSpecial method) rising has
 
-  pub all_allowed : AllAreAllowed writing world typed.code
-  all_allowed = record { receivers = receivers; allowed = allowed }
+      begun : receivers pc ≡ Begun
+      begun = by_receiver pc (InvokeSpecial method) (λ receiver. receiver ≡ Begun) (λ is. (served_at pc (InvokeSpecial method) is).begun calls) (instruction_at typed.code.instructions pc) refl at
+
+  pub others_allowed : OthersAreAllowed writing world typed
+  others_allowed = record { receivers = receivers; allowed = allowed; own = own }

@@ -2,5 +2,5 @@ mod Above
 mod Allowed
 mod Members
 mod Names
-mod Spelled
+pub mod Spelled
 pub mod Together

@@ -1,10 +1,10 @@
 -- What verified code says of an instruction where it stands: an opcode spells it, and it has a frame.
-use Rattle.std.proofs.Common.{◌≡◌, ◌≢◌, ℕ, zero, suc, ◌-◌, ◌<◌, ◌≤◌, Bool, true, false, List, [], ◌∷◌, ◌++◌, drop, replicate, length, get_or, Contains, Option, Some, refl, sym, ap, subst, inl, inr, arith}
+use Rattle.std.proofs.Common.{◌≡◌, ◌≢◌, ℕ, zero, suc, ◌+◌, ◌-◌, ◌<◌, ◌≤◌, Bool, true, false, List, [], ◌∷◌, ◌++◌, drop, replicate, length, get_or, Contains, Option, Some, refl, sym, ap, subst, inl, inr, arith}
 use Rattle.std.specs.Prelude.{if◌then◌else◌, slice_get, map, flat_map, IsTrue, IfSome}
 use Rattle.std.proofs.lemmas.List.{length-map, length-append}
 use Rattle.dj_names.specs.declared.header.Header.{Header}
 use Rattle.dj_names.specs.Types.{JType, parameters_of}
-use Rattle.dj_instructions.specs.Instructions.{Instruction, Instructions}
+use Rattle.dj_instructions.specs.Instructions.{Instruction, Instructions, IsRising, IsRisingFrom}
 use Rattle.dj_frames.specs.Frames.{Tag, Top, Int, Float, Double, Long, Null, UnbornThis, Object, Unborn, Frame, slots_of, tag_of, receiver_of, entry_values}
 use Rattle.dj_code.specs.MethodCode.{Typed}
 use Rattle.dj_tags.specs.Goes.{Assignability, Working, top_down}
@@ -110,3 +110,42 @@ stands_in test (at ∷ rest) (first ∷ frames) zero pc instruction frame within
     some : (one other : Frame) → Some one ≡ Some other → one ≡ other
     some one other e = cc
 stands_in test (at ∷ rest) (first ∷ frames) (suc k) pc instruction frame within is there passes = inr (stands_in test rest frames k pc instruction frame (omega (arith, within)) is there passes)
+
+-- ---- one place of each offset
+
+-- offsets rise from the least one on
+pub above_all : (list : Instructions) (least k pc : ℕ) (instruction : Instruction) → IsRisingFrom least list → k < length list → get_or list k (pc, instruction) ≡ (pc, instruction) → least ≤ pc
+above_all [] least k pc instruction rising within is = absurd (omega (arith, within))
+above_all (first ∷ rest) least zero pc instruction rising within is = let low = rising.0 in let same = ap (λ (one : ℕ × Instruction). one.0) is in omega (arith, low, same)
+above_all (first ∷ rest) least (suc k) pc instruction rising within is =
+    let low = rising.0 in let later = above_all rest (first.0 + 1) k pc instruction rising.1 (omega (arith, within)) is in omega (arith, low, later)
+
+above_stands : (test : Instruction → Frame → Bool) (list : Instructions) (frames : List Frame) (least pc : ℕ) → IsRisingFrom least list → StandsAt test list frames pc → least ≤ pc
+above_stands test [] frames least pc rising stands = absurd stands
+above_stands test (first ∷ rest) [] least pc rising stands = absurd stands
+above_stands test (first ∷ rest) (frame ∷ frames) least pc rising (inl here) = let low = rising.0 in let same = here.0 in omega (arith, low, same)
+above_stands test (first ∷ rest) (frame ∷ frames) least pc rising (inr there) =
+    let low = rising.0 in let later = above_stands test rest frames (first.0 + 1) pc rising.1 there in omega (arith, low, later)
+
+-- so what stands at an offset passes the test that what stands there passes
+passes_from : (test : Instruction → Frame → Bool) (list : Instructions) (frames : List Frame) (least k pc : ℕ) (instruction : Instruction) (frame : Frame)
+    → IsRisingFrom least list → k < length list → get_or list k (pc, instruction) ≡ (pc, instruction) → slice_get frames k ≡ Some frame → StandsAt test list frames pc → IsTrue (test instruction frame)
+passes_from test [] frames least k pc instruction frame rising within is there stands = absurd stands
+passes_from test (first ∷ rest) [] least k pc instruction frame rising within is there stands = absurd stands
+passes_from test (first ∷ rest) (head ∷ frames) least zero pc instruction frame rising within is there (inl here) =
+    subst (λ (f : Frame). IsTrue (test instruction f)) (some head frame there) (subst (λ (one : Instruction). IsTrue (test one head)) (ap (λ (one : ℕ × Instruction). one.1) is) here.1)
+  where
+    some : (one other : Frame) → Some one ≡ Some other → one ≡ other
+    some one other e = cc
+passes_from test (first ∷ rest) (head ∷ frames) least zero pc instruction frame rising within is there (inr stands) =
+    absurd (let later = above_stands test rest frames (first.0 + 1) pc rising.1 stands in let same = ap (λ (one : ℕ × Instruction). one.0) is in omega (arith, later, same))
+passes_from test (first ∷ rest) (head ∷ frames) least (suc k) pc instruction frame rising within is there (inl here) =
+    absurd (let later = above_all rest (first.0 + 1) k pc instruction rising.1 (omega (arith, within)) is in let same = here.0 in omega (arith, later, same))
+passes_from test (first ∷ rest) (head ∷ frames) least (suc k) pc instruction frame rising within is there (inr stands) =
+    passes_from test rest frames (first.0 + 1) k pc instruction frame rising.1 (omega (arith, within)) is there stands
+
+pub passes_there : (test : Instruction → Frame → Bool) (list : Instructions) (frames : List Frame) (k pc : ℕ) (instruction : Instruction) (frame : Frame)
+    → IsRising list → k < length list → get_or list k (pc, instruction) ≡ (pc, instruction) → slice_get frames k ≡ Some frame → StandsAt test list frames pc → IsTrue (test instruction frame)
+passes_there test [] frames k pc instruction frame rising within is there stands = absurd stands
+passes_there test (first ∷ rest) frames k pc instruction frame rising within is there stands =
+    passes_from test (first ∷ rest) frames 0 k pc instruction frame (omega arith, subst (λ least. IsRisingFrom (least + 1) rest) (sym rising.0) rising.1) within is there stands

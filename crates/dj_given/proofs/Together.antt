@@ -18,10 +18,10 @@ use Rattle.dj_signatures.specs.Signatures.{BreaksSignature}
 use Rattle.dj_code_causes.specs.Places.{IsOne}
 use Rattle.dj_code_causes.specs.NamedIn.{of_class}
 use Rattle.dj_causes_given.proofs.Naming.{names_may_be_named}
-use Rattle.dj_given.specs.Given.{IsFree, CallsNoOwn, AllIsNamed, AllAreAllowed, IsHeadRight, IsRun, IsInWorld, NamesAreGiven, MembersAreGiven, RunsAreGiven, StrictIsGiven, HeadsAreGiven, ClassesAreGiven}
+use Rattle.dj_given.specs.Given.{IsFree, CallsNoOwn, AllIsNamed, AllAreAllowed, OthersAreAllowed, IsHeadRight, IsRun, IsInWorld, NamesAreGiven, MembersAreGiven, OthersAreGiven, RunsAreGiven, StrictIsGiven, HeadsAreGiven, ClassesAreGiven}
 use Rattle.dj_given.proofs.Names.{all_named, class_there}
 use Rattle.dj_given.proofs.Spelled.{spelled, few_parameters}
-use Rattle.dj_given.proofs.Allowed.{all_allowed}
+use Rattle.dj_given.proofs.Allowed.{others_allowed}
 
 module _ (world : WorldOf) (class : ClassOf) (at : ℕ) (typed : Typed) (is : IsFree world class at typed) where
   rising : IsRising typed.code.instructions
@@ -31,10 +31,15 @@ module _ (world : WorldOf) (class : ClassOf) (at : ℕ) (typed : Typed) (is : Is
   named_by writing right =
       all_named world typed.code writing right is.free.early.names.missing is.free.early.names.unsaid is.is_world.lawful (spelled (Laxly world.headers) world.headers typed is.table)
 
+  others_by : (writing : Writing) → IsRight world.headers world.members typed.code.class writing → OthersAreAllowed writing world typed
+  others_by writing right =
+      others_allowed world typed writing is.is_world.lawful (named_by writing right) (class_there world typed.code writing right is.free.early.names.missing is.free.early.names.unsaid)
+      is.table rising is.free.early.members.member
+
   allowed_by : (writing : Writing) → IsRight world.headers world.members typed.code.class writing → CallsNoOwn typed → AllAreAllowed writing world typed.code
   allowed_by writing right no_own =
-      all_allowed world typed writing is.is_world.lawful (named_by writing right) (class_there world typed.code writing right is.free.early.names.missing is.free.early.names.unsaid)
-      is.table rising is.free.early.members.member no_own
+      let others = others_by writing right in
+      record { receivers = others.receivers; allowed = λ pc instruction has. others.allowed pc instruction has (no_own pc) }
 
   strict_by : IsStrict world.headers typed
   strict_by = record { table = is.free.early.members.strict; rising = rising }
@@ -99,6 +104,9 @@ names_given world class at typed writing is right = named_by world class at type
 
 pub members_given : MembersAreGiven
 members_given world class at typed writing is right no_own = allowed_by world class at typed is writing right no_own
+
+pub others_given : OthersAreGiven
+others_given world class at typed writing is right = others_by world class at typed is writing right
 
 pub runs_given : RunsAreGiven
 runs_given world class at typed is = run world class at typed is

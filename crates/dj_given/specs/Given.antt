@@ -5,7 +5,7 @@ use Rattle.dj_names.specs.MethodNames.{is_constructor, is_initialiser}
 use Rattle.dj_names.specs.Types.{parameters_of, result_of}
 use Rattle.dj_class.specs.Described.{ClassOf, MethodOf}
 use Rattle.dj_world.specs.Worlds.{WorldOf, IsWorld}
-use Rattle.dj_instructions.specs.Instructions.{Instruction}
+use Rattle.dj_instructions.specs.Instructions.{MethodRef, Instruction, InvokeSpecial}
 use Rattle.dj_code.specs.MethodCode.{Code, Typed}
 use Rattle.dj_code.specs.ReadCode.{SpellsCode}
 use Rattle.dj_tags.specs.Laxly.{Laxly}
@@ -14,7 +14,7 @@ use Rattle.dj_sound.specs.States.{IsStrict}
 use Rattle.dj_meaning.specs.Members.{view_members}
 use Rattle.dj_typing.specs.Sites.{Site, is_whole, may_name, may_name_type}
 use Rattle.dj_typed.specs.Bodies.{Writing, IsRight, site_in}
-use Rattle.dj_meant.specs.Meant.{Receiver}
+use Rattle.dj_meant.specs.Meant.{Receiver, IsOfConstruct}
 use Rattle.dj_member_nodes.specs.Named.{AreNamed, IsNamed, RootsAreNamed, IsAllowed}
 use Rattle.dj_code_causes.specs.Floats.{works_on_float, spells_float}
 use Rattle.dj_code_causes.specs.Dynamics.{is_dynamic}
@@ -58,6 +58,12 @@ pub record AllAreAllowed (writing : Writing) (world : WorldOf) (code : Code) : T
   pub receivers : ℕ → Receiver
   pub allowed : (pc : ℕ) (instruction : Instruction) → Contains code.instructions (pc, instruction) → IsAllowed (site_of writing world code) receivers pc instruction
 
+-- so for all but calls of another constructor on `this`, by which source means what the instruction names
+pub record OthersAreAllowed (writing : Writing) (world : WorldOf) (typed : Typed) : Type 0 where
+  pub receivers : ℕ → Receiver
+  pub allowed : (pc : ℕ) (instruction : Instruction) → Contains typed.code.instructions (pc, instruction) → ¬ IsOwnCall typed pc → IsAllowed (site_of writing world typed.code) receivers pc instruction
+  pub own : (pc : ℕ) (method : MethodRef) → Contains typed.code.instructions (pc, InvokeSpecial method) → IsOwnCall typed pc → is_constructor method.name ≡ true → IsOfConstruct world.headers (map view_members world.members) typed.code.class method
+
 -- the head is one that Java has
 pub record IsHeadRight (code : Code) : Type 0 where
   pub few : length (parameters_of code.descriptor) ≤ 4294967295
@@ -88,6 +94,12 @@ abbrev pub MembersAreGiven : Type 0
 MembersAreGiven =
     (world : WorldOf) (class : ClassOf) (at : ℕ) (typed : Typed) (writing : Writing) → IsFree world class at typed → IsRight world.headers world.members typed.code.class writing
     → CallsNoOwn typed → AllAreAllowed writing world typed.code
+
+-- and where calls of another constructor stand, the others may
+abbrev pub OthersAreGiven : Type 0
+OthersAreGiven =
+    (world : WorldOf) (class : ClassOf) (at : ℕ) (typed : Typed) (writing : Writing) → IsFree world class at typed → IsRight world.headers world.members typed.code.class writing
+    → OthersAreAllowed writing world typed
 
 -- no float is worked on
 abbrev pub RunsAreGiven : Type 0

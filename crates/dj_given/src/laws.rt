@@ -1,6 +1,6 @@
 //! What the absence of causes gives.
 
-ghost use Rattle.dj_given.specs.Given.{ClassesAreGiven, HeadsAreGiven, MembersAreGiven, NamesAreGiven, RunsAreGiven, StrictIsGiven};
+ghost use Rattle.dj_given.specs.Given.{ClassesAreGiven, HeadsAreGiven, MembersAreGiven, NamesAreGiven, OthersAreGiven, RunsAreGiven, StrictIsGiven};
 
 /// What the code of a method without a cause names can be said.
 pub fn names_are_given()
@@ -10,6 +10,11 @@ pub fn names_are_given()
 /// Its instructions have members that source means.
 pub fn members_are_given()
     ensures given { MembersAreGiven }
+{}
+
+/// So have those beside calls of another constructor on `this`, and source means these calls.
+pub fn others_are_given()
+    ensures given { OthersAreGiven }
 {}
 
 /// They work on no float, and are linked.

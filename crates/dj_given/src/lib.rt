@@ -6,6 +6,6 @@
 mod laws;
 
 pub use laws::{
-    classes_are_given, heads_are_given, members_are_given, names_are_given, runs_are_given,
-    strict_is_given,
+    classes_are_given, heads_are_given, members_are_given, names_are_given, others_are_given,
+    runs_are_given, strict_is_given,
 };
