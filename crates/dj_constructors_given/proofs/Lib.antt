@@ -1,0 +1,5 @@
+mod Calling
+mod Spares
+mod Sole
+mod Opening
+pub mod Together
