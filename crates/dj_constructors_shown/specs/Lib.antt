@@ -1,0 +1,2 @@
+-- Constructors whose code is one block, and what is printed of them.
+pub mod Shown
